@@ -1,0 +1,2 @@
+-- The one statement over the list of cases.
+pub mod Passed

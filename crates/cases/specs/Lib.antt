@@ -1,0 +1,2 @@
+-- The cases of document 01 that are to be proved.
+pub mod Cases

@@ -1,0 +1,62 @@
+-- What other crates need of the charges: they fit, both sides count alike, and the model alone decides a refusal.
+use Prim.Native.Nat.{ℕ, zero, suc, _+_, _*_, _^_, _≤_, _<_, min}
+use native.Mathlib.Nat.{add-comm, mul-comm, min-comm, lt-of-le-of-lt, mul-le-mul-left}
+use native.Mathlib.Omega.{arith}
+use mathlib.Core.Path.{_≡_, refl}
+use Rattle.numbers.proofs.Products.{product-fits}
+use Rattle.charges.specs.Charges.{up, log2, w, sortMerge, diskLoops, priced, charge}
+use Rattle.charges.proofs.Log.{log-leading}
+use Rattle.charges.proofs.Rounding.{up-near}
+
+-- "Each term is rounded by itself": the smallest join pays for a whole block, or a whole read, in every term.
+pub each-rounded : diskLoops 1 1 1 ≡ 4
+unfolding diskLoops up
+each-rounded = refl
+
+-- A size has at most 32 binary digits, so sorting it costs at most 32 times the size.
+pub w-bounded : (x : ℕ) → x < 2 ^ 32 → w x < 2 ^ 37
+unfolding w
+w-bounded x h =
+    let digits : 1 + log2 x ≤ 32 = omega (arith, log-leading 32 x (omega arith) h) in
+    lt-of-le-of-lt (mul-le-mul-left x digits) (omega arith)
+
+-- A charge is far below what 64 bits hold, so the total of a join, two trees within 2 ^ 60 and a charge, cannot overflow.
+pub charge-bounded : (model a b o : ℕ) → a < 2 ^ 32 → b < 2 ^ 32 → o < 2 ^ 32 → charge model a b o < 2 ^ 51
+unfolding charge priced sortMerge diskLoops
+charge-bounded zero a b o ha hb ho = omega arith
+charge-bounded (suc zero) a b o ha hb ho = omega (arith, w-bounded a ha, w-bounded b hb)
+charge-bounded (suc (suc zero)) a b o ha hb ho =
+    omega (arith, product-fits 32 32 a b ha hb, up-near o 10, up-near (a * b) 9900, up-near (min a b) 10)
+charge-bounded (suc (suc (suc model))) a b o ha hb ho = omega arith
+
+-- A split and its mirror are charged the same.
+pub charge-symmetric : (model a b o : ℕ) → charge model a b o ≡ charge model b a o
+unfolding charge priced sortMerge diskLoops
+charge-symmetric zero a b o = refl
+charge-symmetric (suc zero) a b o = add-comm (w a) (w b)
+charge-symmetric (suc (suc zero)) a b o = rw (mul-comm a b, min-comm a b)
+charge-symmetric (suc (suc (suc model))) a b o = refl
+
+-- "The model is a number from 0 to 2": each of these is answered with 0, done ..
+pub known : (model a b o : ℕ) → model < 3 → priced model a b o .number ≡ 0
+unfolding priced
+known zero a b o h = refl
+known (suc zero) a b o h = refl
+known (suc (suc zero)) a b o h = refl
+known (suc (suc (suc model))) a b o h = absurd (omega arith)
+
+-- .. and any other with 4, model unknown, and no charge.
+pub unknown : (model a b o : ℕ) → 3 ≤ model → priced model a b o ≡ record { number = 4; charge = 0 }
+unfolding priced
+unknown zero a b o h = absurd (omega arith)
+unknown (suc zero) a b o h = absurd (omega arith)
+unknown (suc (suc zero)) a b o h = absurd (omega arith)
+unknown (suc (suc (suc model))) a b o h = refl
+
+-- Sizes never decide a refusal, so a caller can ask once, before it writes anything.
+pub model-alone : (model a b o a' b' o' : ℕ) → priced model a b o .number ≡ priced model a' b' o' .number
+unfolding priced
+model-alone zero a b o a' b' o' = refl
+model-alone (suc zero) a b o a' b' o' = refl
+model-alone (suc (suc zero)) a b o a' b' o' = refl
+model-alone (suc (suc (suc model))) a b o a' b' o' = refl

@@ -1,0 +1,4 @@
+-- Laws that every crate may cite.
+pub mod Products
+pub mod Tests
+mod Determined

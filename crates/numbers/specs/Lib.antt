@@ -1,0 +1,2 @@
+-- What it means that a contract determines its result.
+pub mod Determined

@@ -1,0 +1,8 @@
+-- The definitions computed, then the laws of the numbering by subject. What the crates above lean on is public.
+mod Examples
+pub mod Members
+pub mod Parts
+pub mod Lowest
+pub mod Splits
+pub mod Places
+mod Determined

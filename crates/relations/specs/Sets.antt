@@ -1,0 +1,74 @@
+-- Sets of relations as numbers (document 01, "One numbering").
+use Prim.Native.Nat.{ℕ, zero, suc, _+_, _-_, _/_, _%_, _^_}
+use mathlib.Core.Bool.{Bool, true, false, cond, not, _&&_}
+use mathlib.Core.Path.{_≡_}
+use lib.Dec.{eqb, leb}
+
+-- "There are n relations, 1 to 15."
+abbrev pub MOST : ℕ
+MOST = 15
+
+-- "Relation k has the weight 2^(k-1)." There is no relation 0: it weighs nothing.
+unfoldable pub weight : ℕ → ℕ
+weight zero = 0
+weight (suc p) = 2 ^ p
+
+-- Relation k is in the set S: its weight, a power of two, is one of those that S is the sum of.
+unfoldable pub mem : ℕ → ℕ → Bool
+mem zero S = false
+mem (suc p) S = eqb (S / 2 ^ p % 2) 1
+
+-- "A set's number is the sum of its members' weights": the set of those of the relations 1 to n that pass a test.
+unfoldable pub those : (ℕ → Bool) → ℕ → ℕ
+those test zero = 0
+those test (suc k) = those test k + cond (test (suc k)) (weight (suc k)) 0
+
+-- The named values: "the empty set, the set of one relation and the set of all n. Asked for 0, or for a number above the most
+-- relations allowed, they give the empty set."
+abbrev pub EMPTY : ℕ
+EMPTY = 0
+
+unfoldable pub oneOf : ℕ → ℕ
+oneOf k = cond (leb k MOST) (weight k) EMPTY
+
+unfoldable pub allOf : ℕ → ℕ
+allOf n = cond (leb n MOST) (2 ^ n - 1) EMPTY
+
+-- Every relation of L is in S; and A and B have no relation in common.
+abbrev pub Part : ℕ → ℕ → Type 0
+Part L S = (k : ℕ) → mem k L ≡ true → mem k S ≡ true
+
+abbrev pub Apart : ℕ → ℕ → Type 0
+Apart A B = (k : ℕ) → mem k A ≡ true → mem k B ≡ true → ⊥
+
+-- The relations of S that are not in L. A relation's number is no more than the number of a set that holds it, so that the first S
+-- relations are enough to look at; so they are below.
+unfoldable pub without : ℕ → ℕ → ℕ
+without S L = those (λ k. mem k S && not (mem k L)) S
+
+-- L is inside S, as a test: L without S is empty.
+unfoldable pub inside : ℕ → ℕ → Bool
+inside L S = eqb (without L S) EMPTY
+
+-- "Let r be its lowest-numbered relation": the first of 1 to k that is in S, and 0 where none is.
+unfoldable pub first : ℕ → ℕ → ℕ
+first zero next = next
+first (suc r) next = suc r
+
+unfoldable pub lowestTo : ℕ → ℕ → ℕ
+lowestTo zero S = 0
+lowestTo (suc k) S = first (lowestTo k S) (cond (mem (suc k) S) (suc k) 0)
+
+unfoldable pub lowest : ℕ → ℕ
+lowest S = lowestTo S S
+
+-- "and V the rest". It is empty for the empty set and for a relation alone, and for no other set.
+unfoldable pub rest : ℕ → ℕ
+rest S = S - weight (lowest S)
+
+-- "A single relation", and "a set S of two or more".
+unfoldable pub single : ℕ → Bool
+single S = leb 1 S && eqb (rest S) EMPTY
+
+unfoldable pub larger : ℕ → Bool
+larger S = leb 1 (rest S)
