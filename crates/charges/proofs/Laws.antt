@@ -4,14 +4,9 @@ use native.Mathlib.Nat.{add-comm, mul-comm, min-comm, lt-of-le-of-lt, mul-le-mul
 use native.Mathlib.Omega.{arith}
 use mathlib.Core.Path.{_≡_, refl}
 use Rattle.numbers.proofs.Products.{product-fits}
-use Rattle.charges.specs.Charges.{up, log2, w, sortMerge, diskLoops, priced, charge}
+use Rattle.charges.specs.Charges.{log2, w, sortMerge, diskLoops, priced, charge}
 use Rattle.charges.proofs.Log.{log-leading}
 use Rattle.charges.proofs.Rounding.{up-near}
-
--- "Each term is rounded by itself": the smallest join pays for a whole block, or a whole read, in every term.
-pub each-rounded : diskLoops 1 1 1 ≡ 4
-unfolding diskLoops up
-each-rounded = refl
 
 -- A size has at most 32 binary digits, so sorting it costs at most 32 times the size.
 pub w-bounded : (x : ℕ) → x < 2 ^ 32 → w x < 2 ^ 37

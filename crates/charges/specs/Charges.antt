@@ -1,5 +1,6 @@
 -- What joining sizes a and b into size o costs beside the two trees (document 01, "Costs").
 use Prim.Native.Nat.{ℕ, zero, suc, _+_, _*_, _/_, _%_, min}
+use mathlib.Core.Path.{_≡_, refl}
 use Rattle.charges.specs.declared.Charged.{Charged}
 use Rattle.charges.specs.declared.Charged.the-variants.{At, UnknownModel}
 
@@ -47,3 +48,18 @@ priced (suc (suc (suc _))) a b o = record { number = 4; charge = 0 }
 
 unfoldable pub charge : ℕ → ℕ → ℕ → ℕ → ℕ
 charge model a b o = priced model a b o .charge
+
+-- ---- computed
+
+rounded : (up 20 10 ≡ 2) × (up 21 10 ≡ 3) × (up 0 10 ≡ 0)
+unfolding up
+rounded = (refl, refl, refl)
+
+logged : (log2 0 ≡ 0) × (log2 1 ≡ 0) × (log2 7 ≡ 2) × (log2 8 ≡ 3)
+unfolding halvings log2
+logged = (refl, refl, refl, refl)
+
+-- The smallest join pays for a whole block, or a whole read, in every term.
+each-rounded : diskLoops 1 1 1 ≡ 4
+unfolding up diskLoops
+each-rounded = refl

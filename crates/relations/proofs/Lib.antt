@@ -1,5 +1,4 @@
--- The definitions computed, then the laws of the numbering by subject. What the crates above lean on is public.
-mod Examples
+-- The laws of the numbering, by subject. What the crates above lean on is public.
 pub mod Members
 pub mod Parts
 pub mod Lowest

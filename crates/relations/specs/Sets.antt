@@ -1,7 +1,7 @@
 -- Sets of relations as numbers (document 01, "One numbering").
 use Prim.Native.Nat.{ℕ, zero, suc, _+_, _-_, _/_, _%_, _^_}
 use mathlib.Core.Bool.{Bool, true, false, cond, not, _&&_}
-use mathlib.Core.Path.{_≡_}
+use mathlib.Core.Path.{_≡_, refl}
 use lib.Dec.{eqb, leb}
 
 -- "There are n relations, 1 to 15."
@@ -72,3 +72,29 @@ single S = leb 1 S && eqb (rest S) EMPTY
 
 unfoldable pub larger : ℕ → Bool
 larger S = leb 1 (rest S)
+
+-- ---- computed: the set of relations 1, 3 and 4 is number 1 + 4 + 8
+
+numbered : (those (λ k. mem k 13) 4 ≡ 13) × (mem 3 13 ≡ true) × (mem 2 13 ≡ false)
+unfolding weight mem those
+numbered = (refl, refl, refl)
+
+named : (oneOf 3 ≡ 4) × (oneOf 0 ≡ 0) × (oneOf 15 ≡ 16384) × (oneOf 16 ≡ 0)
+unfolding weight oneOf
+named = (refl, refl, refl, refl)
+
+full : (allOf 3 ≡ 7) × (allOf 0 ≡ 0) × (allOf 15 ≡ 32767) × (allOf 16 ≡ 0)
+unfolding allOf
+full = (refl, refl, refl, refl)
+
+held : (inside 5 13 ≡ true) × (inside 6 13 ≡ false) × (inside 0 0 ≡ true) × (without 13 6 ≡ 9)
+unfolding weight mem those without inside
+held = (refl, refl, refl, refl)
+
+found : (lowest 12 ≡ 3) × (rest 12 ≡ 8) × (lowest 0 ≡ 0) × (rest 0 ≡ 0)
+unfolding weight mem first lowestTo lowest rest
+found = (refl, refl, refl, refl)
+
+told : (single 8 ≡ true) × (single 12 ≡ false) × (single 0 ≡ false) × (larger 12 ≡ true) × (larger 8 ≡ false) × (larger 0 ≡ false)
+unfolding weight mem first lowestTo lowest rest single larger
+told = (refl, refl, refl, refl, refl, refl)

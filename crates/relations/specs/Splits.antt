@@ -3,10 +3,10 @@
 use Prim.Native.Nat.{ℕ, zero, suc, _+_, _-_, _%_, _^_, _<_, _≤_}
 use mathlib.Core.Bool.{cond, _&&_}
 use mathlib.Core.List.{List, [], _∷_, _++_}
-use mathlib.Core.Path.{_≡_}
+use mathlib.Core.Path.{_≡_, refl}
 use lib.Bits.{bitAnd}
 use lib.Dec.{eqb, leb}
-use Rattle.relations.specs.Sets.{inside, Part}
+use Rattle.relations.specs.Sets.{weight, mem, those, without, inside, Part}
 
 -- "Both parts are non-empty": of the numbers below k, those that are inside S and not 0, in rising order. Below S itself, they are
 -- the left parts of S.
@@ -35,3 +35,13 @@ pub record Next (S L N : ℕ) : Type 0 where
 unfoldable pub visits : ℕ → ℕ → ℕ → ℕ → List ℕ
 visits w S zero L = []
 visits w S (suc f) L = L ∷ cond (eqb L S) [] (visits w S f (wrappedStep w S L))
+
+-- ---- computed
+
+split : (lefts 13 ≡ 1 ∷ 4 ∷ 5 ∷ 8 ∷ 9 ∷ 12 ∷ []) × (lefts 8 ≡ [])
+unfolding weight mem those without inside leftsTo lefts
+split = (refl, refl)
+
+visited : visits 32 13 13 (wrappedStep 32 13 0) ≡ 1 ∷ 4 ∷ 5 ∷ 8 ∷ 9 ∷ 12 ∷ 13 ∷ []
+unfolding wrappedStep visits
+visited = refl
