@@ -70,9 +70,17 @@ place-inj i j k l hi hj hn hk hl hm e =
 
 -- ---- the places of n relations
 
-pub place-below : (n i j : ℕ) → 1 ≤ i → i < j → j ≤ n → place i j < n * (n - 1) / 2
-place-below n i j hi hj h =
-    omega (arith, place-of i j (omega arith), before-step j (omega arith), before-mono (suc j) (suc n) (omega arith) (omega arith), before-all n)
+ordered-below : (n i j : ℕ) → 1 ≤ i → i < j → j ≤ n → place i j < n * (n - 1) / 2
+ordered-below n i j hi hj h =
+    let up : before (suc j) ≤ before (suc n) = before-mono (suc j) (suc n) (omega arith) (omega arith) in
+    omega (arith, place-of i j (omega arith), before-step j (omega arith), before-all n)
+
+pub place-below : (n i j : ℕ) → 1 ≤ i → 1 ≤ j → i ≢ j → i ≤ n → j ≤ n → place i j < n * (n - 1) / 2
+place-below n i j hi hj hn li lj = by (decLt i j)
+  where
+    by : Dec (i < j) → place i j < n * (n - 1) / 2
+    by (yes l) = ordered-below n i j hi l lj
+    by (no l) = rw (place-comm i j) (ordered-below n j i hj (omega arith) li)
 
 -- The pair that stands at place p.
 pub record Pair (n p : ℕ) : Type 0 where
