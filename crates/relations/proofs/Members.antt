@@ -52,6 +52,9 @@ unfolding mem
 mem-empty zero = refl
 mem-empty (suc p) = ap (λ (x : ℕ). eqb (x % 2) 1) (zero-div (2 ^ p))
 
+pub not-in-empty : (k : ℕ) → mem k 0 ≡ true → ⊥
+not-in-empty k m = false≢true (sym (mem-empty k) ∙ m)
+
 pub weight-le : (k S : ℕ) → mem k S ≡ true → weight k ≤ S
 unfolding weight
 weight-le zero S m = omega arith
@@ -86,7 +89,7 @@ mem-weight (suc p) h = bit-mem p (2 ^ p) (ap (λ (x : ℕ). x % 2) (div-self (po
 pub mem-alone : (k j : ℕ) → mem k (weight j) ≡ true → k ≡ j
 unfolding weight
 mem-alone zero j m = absurd (omega (arith, mem-pos 0 (weight j) m))
-mem-alone (suc p) zero m = absurd (false≢true (sym (mem-empty (suc p)) ∙ m))
+mem-alone (suc p) zero m = absurd (not-in-empty (suc p) m)
 mem-alone (suc p) (suc q) m = by (ℕ-discrete p q)
   where
     above : (r : ℕ) → q ≡ suc r + p → 2 ^ q / 2 ^ p % 2 ≡ 0

@@ -7,17 +7,16 @@ use mathlib.Core.Bool.{Bool, true, false, cond, not, _&&_, _||_, or-true, false�
 use mathlib.Core.Logic.{_⊎_, inl, inr}
 use mathlib.Core.Path.{_≡_, refl, sym, ap, ap₂, _∙_, subst}
 use lib.Bits.{bitAnd, and-le-r, or-disjoint}
-use lib.Dec.{eqb, leb}
-use lib.Pow.{ones-lt, pow-pos}
-use borrow.Author.Tests.{eqb-true, eq-eqb, le-leb, lt-leb, leb-true, not-true}
-use Rattle.relations.specs.Sets.{MOST, weight, mem, those, oneOf, allOf, Part, Apart, without, inside}
+use lib.Dec.{eqb}
+use borrow.Author.Tests.{eqb-true, eq-eqb, not-true}
+use Rattle.relations.specs.Sets.{weight, mem, those, Part, Apart, without, inside}
 use Rattle.numbers.proofs.Tests.{both, first-true, second-true, is-false, same-test}
-use Rattle.relations.proofs.Members.{mem-pos, mem-one, mem-half, mem-empty, mem-most, mem-le, mem-weight, mem-alone, members-same, those-same, mem-common, mem-joined}
+use Rattle.relations.proofs.Members.{mem-pos, mem-one, mem-half, mem-empty, not-in-empty, mem-most, mem-le, mem-weight, mem-alone, members-same, those-same, mem-common, mem-joined}
 
 -- ---- the order of parts
 
 pub part-none : (S : ℕ) → Part 0 S
-part-none S k m = absurd (false≢true (sym (mem-empty k) ∙ m))
+part-none S k m = absurd (not-in-empty k m)
 
 pub part-self : (S : ℕ) → Part S S
 part-self S k m = m
@@ -84,14 +83,14 @@ those-below f (suc n) = by (f (suc n)) (those-below f n)
 -- What a further relation adds.
 added : (t : Bool) (n k : ℕ) → mem k (cond t (weight (suc n)) 0) ≡ true → (k ≡ suc n) × (t ≡ true)
 added true n k m = (mem-alone k (suc n) m, refl)
-added false n k m = absurd (false≢true (sym (mem-empty k) ∙ m))
+added false n k m = absurd (not-in-empty k m)
 
 those-apart : (f : ℕ → Bool) (n : ℕ) → Apart (those f n) (cond (f (suc n)) (weight (suc n)) 0)
 those-apart f n k a b = omega (arith, mem-most k (those f n) n a (those-below f n), added (f (suc n)) n k b .0)
 
 pub those-only : (f : ℕ → Bool) (n k : ℕ) → mem k (those f n) ≡ true → (k ≤ n) × (f k ≡ true)
 unfolding those
-those-only f zero k m = absurd (false≢true (sym (mem-empty k) ∙ m))
+those-only f zero k m = absurd (not-in-empty k m)
 those-only f (suc n) k m = by (those-only f n k) (in-sum k (those f n) (cond (f (suc n)) (weight (suc n)) 0) (those-apart f n) m)
   where
     by : (mem k (those f n) ≡ true → (k ≤ n) × (f k ≡ true)) → (mem k (those f n) ≡ true) ⊎ (mem k (cond (f (suc n)) (weight (suc n)) 0) ≡ true)
@@ -189,7 +188,7 @@ inside-part L S e k m = by (mem k S) refl
     by true q = q
     by false q =
         let out : mem k (without L S) ≡ true = mem-without k L S ∙ ap₂ (λ (a b : Bool). a && not b) m q in
-        absurd (false≢true (sym (mem-empty k) ∙ ap (mem k) (sym (eqb-true (without L S) 0 e)) ∙ out))
+        absurd (not-in-empty k (ap (mem k) (sym (eqb-true (without L S) 0 e)) ∙ out))
 
 pub part-inside : (L S : ℕ) → Part L S → inside L S ≡ true
 unfolding inside
@@ -234,41 +233,3 @@ pub halves-part : (L S : ℕ) → Part (L / 2) (S / 2) → L % 2 ≤ S % 2 → P
 halves-part L S h d zero m = absurd (omega (arith, mem-pos 0 L m))
 halves-part L S h d (suc zero) m = mem-one S ∙ eq-eqb (S % 2) 1 (omega (arith, eqb-true (L % 2) 1 (sym (mem-one L) ∙ m)))
 halves-part L S h d (suc (suc k)) m = mem-half k S ∙ h (suc k) (sym (mem-half k L) ∙ m)
-
--- ---- the named values
-
-pub one-is : (k : ℕ) → 1 ≤ k → k ≤ MOST → oneOf k ≡ 2 ^ (k - 1)
-unfolding oneOf weight
-one-is zero h l = absurd (omega arith)
-one-is (suc p) h l = let e : suc p - 1 ≡ p = omega arith in rw (le-leb (suc p) MOST l, e)
-
-pub one-none : (k : ℕ) → (k ≡ 0) ⊎ (MOST < k) → oneOf k ≡ 0
-unfolding oneOf weight
-one-none k (inl e) = rw e
-one-none k (inr l) = rw (lt-leb k MOST l)
-
-pub all-is : (n : ℕ) → n ≤ MOST → allOf n ≡ 2 ^ n - 1
-unfolding allOf
-all-is n l = rw (le-leb n MOST l)
-
-pub all-none : (n : ℕ) → MOST < n → allOf n ≡ 0
-unfolding allOf
-all-none n l = rw (lt-leb n MOST l)
-
--- The set of all n holds relations 1 to n.
-every : (n : ℕ) → those (λ k. true) n ≡ 2 ^ n - 1
-unfolding those weight
-every zero = refl
-every (suc n) = omega (arith, every n, pow-pos n)
-
-pub mem-all : (k n : ℕ) → mem k (2 ^ n - 1) ≡ leb 1 k && leb k n
-mem-all k n = same-test (mem k (2 ^ n - 1)) (leb 1 k && leb k n) only has
-  where
-    only : mem k (2 ^ n - 1) ≡ true → leb 1 k && leb k n ≡ true
-    only m = both (leb 1 k) (leb k n) (le-leb 1 k (mem-pos k (2 ^ n - 1) m)) (le-leb k n (mem-most k (2 ^ n - 1) n m (ones-lt n)))
-
-    has : leb 1 k && leb k n ≡ true → mem k (2 ^ n - 1) ≡ true
-    has e =
-        let low : 1 ≤ k = leb-true 1 k (first-true (leb 1 k) (leb k n) e) in
-        let high : k ≤ n = leb-true k n (second-true (leb 1 k) (leb k n) e) in
-        ap (mem k) (sym (every n)) ∙ those-has (λ j. true) n k low high refl

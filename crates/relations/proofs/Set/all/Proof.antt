@@ -2,7 +2,7 @@ use Prim.Native.Nat.{ℕ, _-_}
 use native.Mathlib.Omega.{arith}
 use mathlib.Core.Path.{sym, ap, _∙_}
 use lib.Pow.{pow-pos}
-use Rattle.relations.proofs.Parts.{all-is, all-none}
+use Rattle.relations.proofs.Named.{all-is, all-none}
 use Rattle.relations.proofs.Set.all.Statement.{statement}
 use Rattle.relations.proofs.Set.all.Tie as tie
 

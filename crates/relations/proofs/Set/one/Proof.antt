@@ -2,7 +2,7 @@ use borrow.Author.Needs.{needs}
 use native.Mathlib.Omega.{arith}
 use mathlib.Core.Logic.{inl, inr}
 use mathlib.Core.Path.{sym, _∙_}
-use Rattle.relations.proofs.Parts.{one-is, one-none}
+use Rattle.relations.proofs.Named.{one-is, one-none}
 use Rattle.relations.proofs.Set.one.Statement.{statement}
 use Rattle.relations.proofs.Set.one.Tie as tie
 
