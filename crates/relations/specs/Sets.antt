@@ -41,8 +41,8 @@ Part L S = (k : ℕ) → mem k L ≡ true → mem k S ≡ true
 abbrev pub Apart : ℕ → ℕ → Type 0
 Apart A B = (k : ℕ) → mem k A ≡ true → mem k B ≡ true → ⊥
 
--- The relations of S that are not in L. A relation's number is no more than the number of a set that holds it, so that the first S
--- relations are enough to look at; so they are below.
+-- The relations of S that are not in L. A relation's number is no more than the number of a set that holds it, so that it is enough to
+-- look at the first S relations, here and for the lowest.
 unfoldable pub without : ℕ → ℕ → ℕ
 without S L = those (λ k. mem k S && not (mem k L)) S
 

@@ -94,7 +94,8 @@ impl Set {
         Set { number: difference }
     }
 
-    // The left part that comes after `left`, where this is the set to be split (document 01, "Which places take which form").
+    // The part of this set that comes after `left` in rising order: from the empty set through every left part to the set itself. The
+    // step is document 01's own ("Which places take which form").
     pub fn next_left(self, left: Set) -> Set
         ensures step { λ r. ⌜ r .number ≡ nextLeft (self .number) (left .number) ⌝ }
         ensures rising { λ r. ⌜ (Part (left .number) (self .number) → Next (self .number) (left .number) (r .number)) ⌝ }
