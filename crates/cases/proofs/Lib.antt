@@ -1,2 +1,3 @@
--- The one statement over the list of cases.
+-- The one statement over the list of cases, and the laws that the program's proofs use.
 pub mod Passed
+pub mod Lists

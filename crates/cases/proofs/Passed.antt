@@ -1,4 +1,4 @@
--- Every case of document 01 marked P passes by the definitions.
+-- Every listed case of document 01 passes by the definitions.
 use mathlib.Core.Path.{_≡_, refl}
 use mathlib.Core.Bool.{true}
 use Rattle.cases.specs.Cases.{allPass, cases}

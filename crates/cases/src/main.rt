@@ -1,11 +1,133 @@
 // Document 01's cases through the real functions. The same cases pass by the definitions as one statement, proofs/Passed.antt.
+// Before a fill each column holds 9 throughout, and none of it is left after.
 ghost use mathlib.Core.Path.{_≡_};
-ghost use Rattle.cases.specs.Cases.{Case, passes};
+ghost use lib.Dec.{eqb};
+ghost use Rattle.table.specs.Requests.{fill};
+ghost use Rattle.table.specs.Results.{answer, result};
+ghost use Rattle.cases.specs.Cases.{Case, passes, isPlan, sameList, widest};
 use charges::Charged;
+use table::Planned;
+use table::Refusal;
+
+// The limit of the cases that are not about it: the highest, 2^60.
+const LIMIT: u64 = 1152921504606846976;
 
 fn main() {
+    case_1();
+    case_2();
+    case_3();
+    case_4();
     case_5();
     case_6();
+    case_7();
+}
+
+// One relation, at limit 0: its plan is itself.
+fn case_1() {
+    let counts: [u32; 1] = [10];
+    let divisors: [u32; 0] = [];
+    let mut sizes: [u32; 2] = [9; 2];
+    let mut costs: [u64; 2] = [9; 2];
+    let mut lefts: [u16; 2] = [9; 2];
+    let found = table::fill(
+        1,
+        &counts,
+        &divisors,
+        0,
+        0,
+        &mut sizes,
+        &mut costs,
+        &mut lefts,
+    );
+    check::expect(is_plan(found, 0, 10));
+}
+
+// The size is held at 4,294,967,295, and the cost is equal to it: that limit accepts, and one less gives 7.
+fn case_2() {
+    check::expect(is_plan(fill_widest(4294967295), 4294967295, 4294967295));
+    check::expect(is_no_plan(fill_widest(4294967294)));
+}
+
+// A fill of case 2's two relations.
+fn fill_widest(limit: u64) -> Planned
+    ensures { λ x. ⌜ answer x ≡ result fill (widest limit) .answer ⌝ }
+{
+    let counts: [u32; 2] = [4294967295; 2];
+    let divisors: [u32; 1] = [1];
+    let mut sizes: [u32; 4] = [9; 4];
+    let mut costs: [u64; 4] = [9; 4];
+    let mut lefts: [u16; 4] = [9; 4];
+    table::fill(
+        2,
+        &counts,
+        &divisors,
+        0,
+        limit,
+        &mut sizes,
+        &mut costs,
+        &mut lefts,
+    )
+}
+
+// The sizes, rounded up once, and the tree ((1,2),3): row 7 has the left part {1,2}, and row 3 the left part {1}.
+fn case_3() {
+    let counts: [u32; 3] = [10, 20, 30];
+    let divisors: [u32; 3] = [10, 1, 7];
+    let mut sizes: [u32; 8] = [9; 8];
+    let mut costs: [u64; 8] = [9; 8];
+    let mut lefts: [u16; 8] = [9; 8];
+    let found = table::fill(
+        3,
+        &counts,
+        &divisors,
+        0,
+        LIMIT,
+        &mut sizes,
+        &mut costs,
+        &mut lefts,
+    );
+    check::expect(is_plan(found, 106, 86));
+    let expected: [u32; 8] = [0, 10, 20, 20, 30, 300, 86, 86];
+    check::expect(are_sizes(&sizes, &expected));
+    check::expect(lefts[7] == 3);
+    check::expect(lefts[3] == 1);
+}
+
+// Case 3 with relation 2's count edited to 2,000, and the tree (2,(1,3)): row 7 has the left part {2}, and row 5 the left part {1}.
+fn case_4() {
+    let mut counts: [u32; 3] = [10, 20, 30];
+    let divisors: [u32; 3] = [10, 1, 7];
+    let mut sizes: [u32; 8] = [9; 8];
+    let mut costs: [u64; 8] = [9; 8];
+    let mut lefts: [u16; 8] = [9; 8];
+    table::fill(
+        3,
+        &counts,
+        &divisors,
+        0,
+        LIMIT,
+        &mut sizes,
+        &mut costs,
+        &mut lefts,
+    );
+    let found = table::edit_count(
+        3,
+        &mut counts,
+        &divisors,
+        0,
+        LIMIT,
+        &mut sizes,
+        &mut costs,
+        &mut lefts,
+        2,
+        2000,
+    );
+    check::expect(is_plan(found, 8872, 8572));
+    check::expect(counts[1] == 2000);
+    let expected: [u32; 8] = [0, 10, 2000, 2000, 30, 300, 8572, 8572];
+    check::expect(are_sizes(&sizes, &expected));
+    check::expect(lefts[7] == 2);
+    check::expect(lefts[5] == 1);
 }
 
 fn case_5() {
@@ -18,6 +140,66 @@ fn case_5() {
 fn case_6() {
     check::expect(is_charged(2, 10, 20, 200, 42));
     check::expect(is_charged(2, 0, 5, 0, 0));
+}
+
+// A relation of no rows is joined as any other.
+fn case_7() {
+    let counts: [u32; 2] = [0, 5];
+    let divisors: [u32; 1] = [1];
+    let mut sizes: [u32; 4] = [9; 4];
+    let mut costs: [u64; 4] = [9; 4];
+    let mut lefts: [u16; 4] = [9; 4];
+    let found = table::fill(
+        2,
+        &counts,
+        &divisors,
+        0,
+        LIMIT,
+        &mut sizes,
+        &mut costs,
+        &mut lefts,
+    );
+    check::expect(is_plan(found, 0, 0));
+}
+
+// Whether the answer is a plan of this cost and this size.
+fn is_plan(found: Planned, cost: u64, size: u32) -> bool
+    ensures { λ r. ⌜ r ≡ isPlan (answer found) cost size ⌝ }
+{
+    let Planned::Plan { cost: c, size: s } = found else {
+        return false;
+    };
+    c == cost && s == size
+}
+
+// Whether the column holds these sizes and no more.
+fn are_sizes(column: &[u32], sizes: &[u32]) -> bool
+    ensures { λ r. ⌜ r ≡ sameList (now (column .entry)) (now (sizes .entry)) ⌝ }
+{
+    if column.len() != sizes.len() {
+        return false;
+    }
+    let mut s = 0;
+    while s < column.len() {
+        if column[s] != sizes[s] {
+            return false;
+        }
+        s += 1;
+    }
+    true
+}
+
+// Whether the answer is that no tree is within the limit.
+fn is_no_plan(found: Planned) -> bool
+    ensures { λ r. ⌜ r ≡ eqb (answer found .number) 7 ⌝ }
+{
+    let Planned::Refused(why) = found else {
+        return false;
+    };
+    if let Refusal::NoPlan = why {
+        return true;
+    }
+    false
 }
 
 // Whether the model is known and its charge is c.

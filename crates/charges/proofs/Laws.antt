@@ -2,9 +2,11 @@
 use Prim.Native.Nat.{ℕ, zero, suc, _+_, _*_, _^_, _≤_, _<_, min}
 use native.Mathlib.Nat.{add-comm, mul-comm, min-comm, lt-of-le-of-lt, mul-le-mul-left}
 use native.Mathlib.Omega.{arith}
-use mathlib.Core.Path.{_≡_, refl}
+use mathlib.Core.Path.{_≡_, refl, sym, ap, _∙_}
 use Rattle.numbers.proofs.Products.{product-fits}
-use Rattle.charges.specs.Charges.{log2, w, sortMerge, diskLoops, priced, charge}
+use Rattle.charges.specs.Charges.{log2, w, sortMerge, diskLoops, Answer, answer, priced, charge}
+use Rattle.charges.specs.declared.Charged.{Charged}
+use Rattle.charges.specs.declared.Charged.the-variants.{At, UnknownModel}
 use Rattle.charges.proofs.Log.{log-leading}
 use Rattle.charges.proofs.Rounding.{up-near}
 
@@ -55,3 +57,12 @@ model-alone zero a b o a' b' o' = refl
 model-alone (suc zero) a b o a' b' o' = refl
 model-alone (suc (suc zero)) a b o a' b' o' = refl
 model-alone (suc (suc (suc model))) a b o a' b' o' = refl
+
+-- What a caller reads off an answer: the charge; and that a model known at any sizes is never refused.
+pub charge-told : (model a b o x : ℕ) (r : Charged) → answer r ≡ priced model a b o → r ≡ At x → x ≡ charge model a b o
+unfolding charge
+charge-told model a b o x r e q = ap (λ (y : Answer). y .charge) (ap answer (sym q) ∙ e)
+
+pub never-unknown : (model a b o : ℕ) (r : Charged) → priced model 0 0 0 .number ≡ 0 → answer r ≡ priced model a b o → r ≡ UnknownModel → ⊥
+never-unknown model a b o r h e q =
+    omega (arith, ap (λ (y : Answer). y .number) (ap answer (sym q) ∙ e), model-alone model a b o 0 0 0)

@@ -1,0 +1,100 @@
+-- The cheapest split, by its price: it is the least of the prices, and the left part is the first that has it.
+use Prim.Native.Nat.{ℕ, zero, suc, _<_, _≤_}
+use native.Mathlib.Nat.{eq-or-lt-of-le, le-of-suc-le-suc}
+use native.Mathlib.Omega.{arith}
+use mathlib.Core.Path.{_≡_, refl, ap₂, _∙_}
+use mathlib.Core.Logic.{_⊎_, inl, inr}
+use mathlib.Core.Bool.{Bool, true, false, cond}
+use lib.Dec.{ltb}
+use native.Mathlib.Decide.{le-ind}
+use borrow.Author.Tests.{ltb-true, ltb-false, le-ltb}
+use Rattle.table.specs.Rule.{NONE, better, bestTo}
+use Rattle.table.specs.declared.splits.Split.{Split}
+
+-- Of a split b among those below k: no price is less than its cost, and if its cost is not NONE it is the price of its left part, the
+-- first to have it.
+pub record Best (price : ℕ → ℕ) (k : ℕ) (b : Split) : Type 0 where
+  pub least : (L : ℕ) → L < k → b .cost ≤ price L
+  pub most : b .cost ≤ NONE
+  pub none : b .cost ≡ NONE → b .left ≡ 0
+  pub some : b .cost < NONE → (b .left < k) × (price (b .left) ≡ b .cost)
+  pub first : (L : ℕ) → L < b .left → b .cost < NONE → b .cost < price L
+
+module _ (price : ℕ → ℕ) where
+  best-step : (k : ℕ) (b : Split) → Best price k b → Best price (suc k) (better price b k)
+  unfolding better
+  best-step k b h = go (ltb (price k) (b .cost)) refl
+    where
+      one-more : (c : ℕ) → c ≤ price k → ((L : ℕ) → L < k → c ≤ price L) → (L : ℕ) → (L ≡ k) ⊎ (L < k) → c ≤ price L
+      one-more c l f L (inl e) = rw e l
+      one-more c l f L (inr g) = f L g
+
+      lower : (c : ℕ) → c ≤ price k → ((L : ℕ) → L < k → c ≤ price L) → (L : ℕ) → L < suc k → c ≤ price L
+      lower c l f L g = one-more c l f L (eq-or-lt-of-le (le-of-suc-le-suc g))
+
+      go : (c : Bool) → ltb (price k) (b .cost) ≡ c → Best price (suc k) (cond c (record { cost = price k; left = k }) b)
+      go true e =
+          let l = ltb-true (price k) (b .cost) e in
+          record {
+            least = lower (price k) (omega arith) (λ L g. omega (arith, h .least L g));
+            most = omega (arith, h .most);
+            none = λ q. absurd (omega (arith, h .most));
+            some = λ _. (omega arith, refl);
+            first = λ L g _. omega (arith, h .least L g);
+          }
+      go false e =
+          let l = ltb-false (price k) (b .cost) e in
+          record {
+            least = lower (b .cost) l (h .least);
+            most = h .most;
+            none = h .none;
+            some = λ g. (omega (arith, h .some g .0), h .some g .1);
+            first = h .first;
+          }
+
+  pub best : (k : ℕ) → Best price k (bestTo price k)
+  unfolding bestTo
+  best zero = record {
+    least = λ L l. absurd (omega arith);
+    most = omega arith;
+    none = λ e. refl;
+    some = λ l. absurd (omega arith);
+    first = λ L l. absurd (omega arith);
+  }
+  best (suc k) = best-step k (bestTo price k) (best k)
+
+  -- Its left part is one of those below k, or 0.
+  pub best-left : (k : ℕ) → bestTo price k .left ≤ k
+  best-left k = by (eq-or-lt-of-le (best k .most))
+    where
+      by : (bestTo price k .cost ≡ NONE) ⊎ (bestTo price k .cost < NONE) → bestTo price k .left ≤ k
+      by (inl e) = omega (arith, best k .none e)
+      by (inr l) = omega (arith, best k .some l .0)
+
+-- It goes by the prices alone.
+pub best-ext : (p q : ℕ → ℕ) (k : ℕ) → ((L : ℕ) → L < k → p L ≡ q L) → bestTo p k ≡ bestTo q k
+unfolding bestTo better
+best-ext p q zero h = refl
+best-ext p q (suc k) h =
+    ap₂ (λ (b : Split) (x : ℕ). cond (ltb x (b .cost)) (record { cost = x; left = k }) b)
+    (best-ext p q k (λ L l. h L (omega arith))) (h k (omega arith))
+
+-- Nothing below NONE between a and b: the best below b is the best below a. So code that visits only the parts of S gives the same.
+pub best-skip : (price : ℕ → ℕ) (a b : ℕ) → a ≤ b → ((L : ℕ) → a ≤ L → L < b → NONE ≤ price L) → bestTo price b ≡ bestTo price a
+unfolding bestTo better
+best-skip price a b h dear = le-ind (λ (x : ℕ). x ≤ b → bestTo price x ≡ bestTo price a) (λ _. refl) step b h (omega arith)
+  where
+    same : (c : Split) (L : ℕ) → c .cost ≤ price L → better price c L ≡ c
+    same c L l = rw (le-ltb (price L) (c .cost) l)
+
+    step : (m : ℕ) → a ≤ m → (m ≤ b → bestTo price m ≡ bestTo price a) → suc m ≤ b → bestTo price (suc m) ≡ bestTo price a
+    step m g ih l =
+        same (bestTo price m) m (omega (arith, best price m .most, dear m g l)) ∙ ih (omega arith)
+
+-- A turn of the loop over the left parts: after a, the next that can have a price below NONE is b.
+pub best-hop : (price : ℕ → ℕ) (a b : ℕ) → a < b → ((L : ℕ) → a < L → L < b → NONE ≤ price L) → bestTo price b ≡ better price (bestTo price a) a
+best-hop price a b h dear = best-skip price (suc a) b h dear ∙ unfold bestTo in refl
+
+-- Before the first left part nothing is found.
+pub best-start : (price : ℕ → ℕ) (b : ℕ) → ((L : ℕ) → L < b → NONE ≤ price L) → bestTo price b ≡ record { cost = NONE; left = 0 }
+best-start price b dear = best-skip price 0 b (omega arith) (λ L _. dear L) ∙ unfold bestTo in refl

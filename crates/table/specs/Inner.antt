@@ -1,0 +1,42 @@
+-- What the contracts of the inner functions speak of. No promise to a caller rests on it.
+use Prim.Native.Nat.{ℕ, _-_, _*_, _/_, _^_, _≤_}
+use mathlib.Core.Bool.{Bool, _&&_}
+use mathlib.Core.Path.{_≡_}
+use lib.ListN.{length, getD}
+use Rattle.relations.specs.Sets.{MOST, inside}
+use Rattle.charges.specs.Charges.{priced}
+use Rattle.table.specs.Figures.{Figures}
+use Rattle.table.specs.Tables.{Room}
+use Rattle.table.specs.Results.{Call, numberOf}
+use Rattle.table.specs.declared.checks.Checked.{Checked}
+use Rattle.table.specs.declared.checks.Checked.the-variants.{Passed, Failed}
+
+-- A divisor for each pair of relations, and none is 0.
+pub record Complete (fig : Figures) : Type 0 where
+  pub pairs : length (fig .divisors) ≡ length (fig .counts) * (length (fig .counts) - 1) / 2
+  pub positive : (k : ℕ) → 1 ≤ getD (fig .divisors) k 1
+
+-- The product of up to fourteen divisors passes 64 bits. The code holds it here, which alters no size (proofs/Products, `up-held`).
+abbrev pub HELD : ℕ
+HELD = 18446744073709551615
+
+-- S holds the sets a and b. They are the relations that an edit names, one by one, and both are empty for a fill.
+unfoldable pub holding : ℕ → ℕ → ℕ → Bool
+holding a b S = inside a S && inside b S
+
+-- What the checks find, by its number.
+abbrev pub found : Checked → ℕ
+found Passed = 0
+found (Failed why) = numberOf why
+
+-- What the checks 1 to 6 make sure of where none refuses, one by one. The new divisor is d.
+pub record Fit (d : ℕ) (c : Call) : Type 0 where
+  pub some : 1 ≤ c .n
+  pub few : c .n ≤ MOST
+  pub counts : length (c .figures .counts) ≡ c .n
+  pub divisors : length (c .figures .divisors) ≡ c .n * (c .n - 1) / 2
+  pub new : 1 ≤ d
+  pub stored : (k : ℕ) → 1 ≤ getD (c .figures .divisors) k 1
+  pub model : priced (c .model) 0 0 0 .number ≡ 0
+  pub limit : c .limit ≤ 2 ^ 60
+  pub room : Room (c .table) (2 ^ c .n)
