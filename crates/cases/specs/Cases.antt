@@ -1,5 +1,5 @@
--- Cases 1 to 7 of document 01 ("Figures on both sides of an edge"), all marked P, and the test that each passes by the definitions. Trees
--- are compared as trees.
+-- Cases 1 to 7 of document 01 ("Figures on both sides of an edge"), all marked P, the plans of case 10, and the test that each passes by
+-- the definitions. Trees are compared as trees.
 use Prim.Native.Nat.{ℕ, zero, suc, _^_}
 use mathlib.Core.Bool.{Bool, true, false, _&&_, cond}
 use mathlib.Core.List.{List, [], _∷_, _++_}
@@ -112,6 +112,16 @@ three = over 3 (10 ∷ 20 ∷ 30 ∷ []) (10 ∷ 1 ∷ 7 ∷ []) 0 LIMIT
 abbrev pub empty : Call
 empty = over 2 (0 ∷ 5 ∷ []) (1 ∷ []) 0 LIMIT
 
+-- The figures of document 002's Table 1 and of case 10, by a model, and the sizes of their sets.
+abbrev pub four : ℕ → Call
+four model = over 4 (10 ∷ 20 ∷ 30 ∷ 40 ∷ []) (1 ∷ 1 ∷ 1 ∷ 1 ∷ 1 ∷ 1 ∷ []) model LIMIT
+
+abbrev fourSizes : List ℕ
+fourSizes = 0 ∷ 10 ∷ 20 ∷ 200 ∷ 30 ∷ 300 ∷ 600 ∷ 6000 ∷ 40 ∷ 400 ∷ 800 ∷ 8000 ∷ 1200 ∷ 12000 ∷ 24000 ∷ 240000 ∷ []
+
+abbrev fourTree : Tree
+fourTree = join (join (leaf 2) (leaf 3)) (join (leaf 1) (leaf 4))
+
 unfoldable pub cases : List Case
 cases =
     -- Case 1.
@@ -130,6 +140,8 @@ cases =
     ∷ charged 2 10 20 200 42 ∷ charged 2 0 5 0 0
     -- Case 7.
     ∷ filled empty 0 0 (0 ∷ 0 ∷ 5 ∷ 0 ∷ []) (join (leaf 1) (leaf 2))
+    -- The plans of case 10. "By this rule" the best left part of all four is {2,3}, number 6, and not {1,4}, number 9, at the same cost.
+    ∷ filled (four 0) 241000 240000 fourSizes fourTree ∷ filled (four 1) 10130 240000 fourSizes fourTree ∷ filled (four 2) 48270 240000 fourSizes fourTree
     -- Not in the document: case 3 with the divisor of 3 and 2 edited to 1, so that the other edit is here too.
     ∷ edited (editPair 3 2 1) three 620 600 (0 ∷ 10 ∷ 20 ∷ 20 ∷ 30 ∷ 300 ∷ 600 ∷ 600 ∷ []) (join (join (leaf 1) (leaf 2)) (leaf 3))
     ∷ writes 3 (editPair 3 2 1) (6 ∷ 7 ∷ [])
