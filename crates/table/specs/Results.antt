@@ -5,11 +5,11 @@ use mathlib.Core.Bool.{Bool, false, _||_, cond}
 use mathlib.Core.List.{List, [], _∷_}
 use lib.ListN.{length, replicate}
 use lib.Dec.{eqb, leb, ltb}
-use Rattle.relations.specs.Sets.{MOST, allOf, first}
+use Rattle.relations.specs.Sets.{MOST, weight, mem, allOf, first, lowestTo, lowest, rest, larger}
 use Rattle.charges.specs.Charges.{priced}
-use Rattle.table.specs.Figures.{Figures, figures}
-use Rattle.table.specs.Tables.{Table, columns, rowAt, mendTo}
-use Rattle.table.specs.Rule.{NONE, Job, jobFor, rowOf}
+use Rattle.table.specs.Figures.{Figures, figures, count, sizeRule}
+use Rattle.table.specs.Tables.{Table, columns, rowAt, writeRow, mendRow, mendTo}
+use Rattle.table.specs.Rule.{NONE, Job, jobFor, splitOf, rowWith, rowOf}
 use Rattle.table.specs.Requests.{Request, fill, editCount, editPair, change, touches, newDivisor, isRelation, isPair, names}
 use Rattle.table.specs.declared.rows.Row.{Row}
 use Rattle.table.specs.declared.Planned.{Planned}
@@ -169,3 +169,8 @@ answered : (planned (record { size = 8; cost = 5; left = 1 }) ≡ record { numbe
     × (planned (record { size = 8; cost = NONE; left = 0 }) ≡ refused 7)
 unfolding planned
 answered = (refl, refl)
+
+-- The count is stored before its row is worked; row 0 is not touched.
+mends : mended (editCount 1 7) (two 1 (4 ∷ []) [] 0 0 2) ≡ columns (9 ∷ 7 ∷ []) (9 ∷ 0 ∷ []) (9 ∷ 0 ∷ [])
+unfolding weight mem first lowestTo lowest rest larger count sizeRule rowAt writeRow mendRow mendTo splitOf rowWith rowOf change touches jobOf mended
+mends = refl

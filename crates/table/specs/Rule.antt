@@ -1,11 +1,12 @@
 -- The row rule (document 01, "Rows of the table"), for any charge, any profile of allowed splits and any limit.
 use Prim.Native.Nat.{ℕ, zero, suc, _+_, _-_}
-use mathlib.Core.Bool.{Bool, true, _&&_, cond}
+use mathlib.Core.Bool.{Bool, true, false, _&&_, cond}
+use mathlib.Core.List.{[]}
 use mathlib.Core.Path.{_≡_, refl}
 use lib.Dec.{leb, ltb}
-use Rattle.relations.specs.Sets.{inside, larger, rest}
-use Rattle.charges.specs.Charges.{charge}
-use Rattle.table.specs.Figures.{Figures, sizeRule}
+use Rattle.relations.specs.Sets.{weight, mem, those, without, inside, larger, rest}
+use Rattle.charges.specs.Charges.{priced, charge}
+use Rattle.table.specs.Figures.{Figures, figures, sizeRule}
 use Rattle.table.specs.Tables.{Table, rowAt}
 use Rattle.table.specs.declared.rows.Row.{Row}
 use Rattle.table.specs.declared.splits.Split.{Split}
@@ -79,3 +80,18 @@ prices (suc (suc (suc (suc _)))) = 3
 chosen : (bestTo prices 4 ≡ record { cost = 5; left = 1 }) × (bestTo prices 5 ≡ record { cost = 3; left = 4 })
 unfolding better bestTo prices
 chosen = (refl, refl)
+
+-- Of the set {2,3} the left part {2} is one, with no predicate across it; {1,2} and the empty set are none.
+split : (splits (jobFor 0 9) (figures [] []) 6 2 ≡ true)
+    × (splits (jobFor 0 9) (figures [] []) 6 3 ≡ false)
+    × (splits (jobFor 0 9) (figures [] []) 6 0 ≡ false)
+unfolding weight mem those without inside splits
+split = (refl, refl, refl)
+
+-- Parts of cost a and b, into size 1 at the limit 9: the total is at the limit, or above it, or a part is.
+abbrev limited : ℕ → ℕ → Bool
+limited a b = within (jobFor 0 9) (figures [] []) (record { size = 4; cost = a; left = 0 }) (record { size = 4; cost = b; left = 0 }) 1
+
+usable : (limited 4 4 ≡ true) × (limited 4 5 ≡ false) × (limited 10 0 ≡ false) × (limited 0 10 ≡ false)
+unfolding priced charge joinCost within
+usable = (refl, refl, refl, refl)
