@@ -1,11 +1,16 @@
 // Document 01's cases through the real functions. The same cases pass by the definitions as one statement, proofs/Passed.antt.
-// Before a fill each column holds 9 throughout, and none of it is left after.
+// Before a fill each column holds 9 throughout, and none of it is left after; so does the room for a text before it is printed, where 9 is
+// a tab.
 ghost use mathlib.Core.Path.{_≡_};
 ghost use lib.Dec.{eqb};
 ghost use Rattle.table.specs.Requests.{fill};
-ghost use Rattle.table.specs.Results.{answer, result};
-ghost use Rattle.cases.specs.Cases.{Case, passes, isPlan, sameList, widest};
+ghost use Rattle.table.specs.Demands.{onto};
+ghost use Rattle.table.specs.Results.{answer, resultOf, result};
+ghost use Rattle.table.specs.Tables.{columns};
+ghost use Rattle.newick.specs.Results.{answer as printAnswer};
+ghost use Rattle.cases.specs.Cases.{Case, passes, isPlan, isText, sameList, widest, three};
 use charges::Charged;
+use newick::Printed;
 use table::Planned;
 use table::Refusal;
 
@@ -20,6 +25,7 @@ fn main() {
     case_5();
     case_6();
     case_7();
+    case_8();
 }
 
 // One relation, at limit 0: its plan is itself.
@@ -40,6 +46,9 @@ fn case_1() {
         &mut lefts,
     );
     check::expect(is_plan(found, 0, 10));
+    let mut text: [u8; 2] = [9; 2];
+    newick::print(1, &costs, &lefts, &mut text);
+    check::expect(check::same(&text, b"1;"));
 }
 
 // The size is held at 4,294,967,295, and the cost is equal to it: that limit accepts, and one less gives 7.
@@ -69,47 +78,38 @@ fn fill_widest(limit: u64) -> Planned
     )
 }
 
-// The sizes, rounded up once, and the tree ((1,2),3): row 7 has the left part {1,2}, and row 3 the left part {1}.
+// The sizes, rounded up once, and the tree.
 fn case_3() {
-    let counts: [u32; 3] = [10, 20, 30];
-    let divisors: [u32; 3] = [10, 1, 7];
     let mut sizes: [u32; 8] = [9; 8];
     let mut costs: [u64; 8] = [9; 8];
     let mut lefts: [u16; 8] = [9; 8];
-    let found = table::fill(
-        3,
-        &counts,
-        &divisors,
-        0,
-        LIMIT,
-        &mut sizes,
-        &mut costs,
-        &mut lefts,
-    );
+    let found = fill_three(&mut sizes, &mut costs, &mut lefts);
     check::expect(is_plan(found, 106, 86));
     let expected: [u32; 8] = [0, 10, 20, 20, 30, 300, 86, 86];
     check::expect(are_sizes(&sizes, &expected));
-    check::expect(lefts[7] == 3);
-    check::expect(lefts[3] == 1);
+    let mut text: [u8; 10] = [9; 10];
+    newick::print(3, &costs, &lefts, &mut text);
+    check::expect(check::same(&text, b"((1,2),3);"));
 }
 
-// Case 3 with relation 2's count edited to 2,000, and the tree (2,(1,3)): row 7 has the left part {2}, and row 5 the left part {1}.
+// A fill of case 3's three relations.
+fn fill_three(sizes: &mut [u32], costs: &mut [u64], lefts: &mut [u16]) -> Planned
+    ensures { λ x. ⌜ resultOf x (three .figures .counts) (three .figures .divisors) (now (sizes .exit)) (now (costs .exit)) (now (lefts .exit))
+        ≡ result fill (onto three (columns (now (sizes .entry)) (now (costs .entry)) (now (lefts .entry)))) ⌝ }
+{
+    let counts: [u32; 3] = [10, 20, 30];
+    let divisors: [u32; 3] = [10, 1, 7];
+    table::fill(3, &counts, &divisors, 0, LIMIT, sizes, costs, lefts)
+}
+
+// Case 3 with relation 2's count edited to 2,000: relation 2 comes last now.
 fn case_4() {
     let mut counts: [u32; 3] = [10, 20, 30];
     let divisors: [u32; 3] = [10, 1, 7];
     let mut sizes: [u32; 8] = [9; 8];
     let mut costs: [u64; 8] = [9; 8];
     let mut lefts: [u16; 8] = [9; 8];
-    table::fill(
-        3,
-        &counts,
-        &divisors,
-        0,
-        LIMIT,
-        &mut sizes,
-        &mut costs,
-        &mut lefts,
-    );
+    fill_three(&mut sizes, &mut costs, &mut lefts);
     let found = table::edit_count(
         3,
         &mut counts,
@@ -126,8 +126,9 @@ fn case_4() {
     check::expect(counts[1] == 2000);
     let expected: [u32; 8] = [0, 10, 2000, 2000, 30, 300, 8572, 8572];
     check::expect(are_sizes(&sizes, &expected));
-    check::expect(lefts[7] == 2);
-    check::expect(lefts[5] == 1);
+    let mut text: [u8; 10] = [9; 10];
+    newick::print(3, &costs, &lefts, &mut text);
+    check::expect(check::same(&text, b"(2,(1,3));"));
 }
 
 fn case_5() {
@@ -160,6 +161,21 @@ fn case_7() {
         &mut lefts,
     );
     check::expect(is_plan(found, 0, 0));
+}
+
+// Case 3's text in a room that is a byte short, and in one that is just long enough.
+fn case_8() {
+    let mut sizes: [u32; 8] = [9; 8];
+    let mut costs: [u64; 8] = [9; 8];
+    let mut lefts: [u16; 8] = [9; 8];
+    fill_three(&mut sizes, &mut costs, &mut lefts);
+    let mut short: [u8; 9] = [9; 9];
+    let refused = newick::print(3, &costs, &lefts, &mut short);
+    check::expect(is_short_text(refused));
+    check::expect(check::same(&short, b"\t\t\t\t\t\t\t\t\t"));
+    let mut long: [u8; 10] = [9; 10];
+    let printed = newick::print(3, &costs, &lefts, &mut long);
+    check::expect(is_text(printed, 10));
 }
 
 // Whether the answer is a plan of this cost and this size.
@@ -200,6 +216,29 @@ fn is_no_plan(found: Planned) -> bool
         return true;
     }
     false
+}
+
+// Whether the answer is that the room is too short.
+fn is_short_text(found: Printed) -> bool
+    ensures { λ r. ⌜ r ≡ eqb (printAnswer found .number) 9 ⌝ }
+{
+    let Printed::Refused(why) = found else {
+        return false;
+    };
+    if let newick::Refusal::ShortText = why {
+        return true;
+    }
+    false
+}
+
+// Whether the answer is a text of this length.
+fn is_text(found: Printed, length: usize) -> bool
+    ensures { λ r. ⌜ r ≡ isText (printAnswer found) length ⌝ }
+{
+    let Printed::Text { length: l } = found else {
+        return false;
+    };
+    l == length
 }
 
 // Whether the model is known and its charge is c.

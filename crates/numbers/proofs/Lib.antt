@@ -1,4 +1,5 @@
 -- Laws that every crate may cite.
 pub mod Products
 pub mod Tests
+pub mod Decimal
 mod Determined

@@ -1,5 +1,5 @@
--- Tests that are joined by `&&`.
-use mathlib.Core.Bool.{Bool, true, false, _&&_, false≢true}
+-- Tests that are joined by `&&` and `||`.
+use mathlib.Core.Bool.{Bool, true, false, _&&_, _||_, false≢true, true≢false}
 use mathlib.Core.Path.{_≡_, refl, sym, ap₂}
 
 pub both : (a b : Bool) → a ≡ true → b ≡ true → a && b ≡ true
@@ -12,6 +12,10 @@ first-true false b h = h
 pub second-true : (a b : Bool) → a && b ≡ true → b ≡ true
 second-true true b h = h
 second-true false b h = absurd (false≢true h)
+
+pub neither : (a b : Bool) → (a || b) ≡ false → (a ≡ false) × (b ≡ false)
+neither true b e = absurd (true≢false e)
+neither false b e = (refl, e)
 
 pub is-false : (b : Bool) → (b ≡ true → ⊥) → b ≡ false
 is-false true f = absurd (f refl)

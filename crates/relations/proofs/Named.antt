@@ -5,7 +5,7 @@ use mathlib.Core.Bool.{true, _&&_}
 use mathlib.Core.Logic.{_⊎_, inl, inr}
 use mathlib.Core.Path.{_≡_, refl, sym, ap, _∙_}
 use lib.Dec.{leb}
-use lib.Pow.{ones-lt, pow-pos}
+use lib.Pow.{ones-lt, pow-pos, pow-lt}
 use borrow.Author.Tests.{le-leb, lt-leb, leb-true}
 use Rattle.numbers.proofs.Tests.{both, first-true, second-true, same-test}
 use Rattle.relations.specs.Sets.{MOST, weight, mem, those, oneOf, allOf}
@@ -29,6 +29,13 @@ all-is n l = rw (le-leb n MOST l)
 pub all-none : (n : ℕ) → MOST < n → allOf n ≡ 0
 unfolding allOf
 all-none n l = rw (lt-leb n MOST l)
+
+-- The set of all n is one of the sets of relations 1 to n, and not the empty one.
+pub all-some : (n : ℕ) → 1 ≤ n → n ≤ MOST → (0 < allOf n) × (allOf n < 2 ^ n)
+all-some n some few =
+    let h : 2 ^ 0 < 2 ^ n = pow-lt some in
+    let e = all-is n few in
+    (omega arith, omega arith)
 
 -- The set of all n holds relations 1 to n.
 every : (n : ℕ) → those (λ k. true) n ≡ 2 ^ n - 1

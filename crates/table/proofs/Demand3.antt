@@ -58,7 +58,7 @@ fit-changed q c a =
     }
 
 -- So a fill of them is accepted.
-fill-accepted : (c : Call) → Fit 1 c → refusal fill c ≡ 0
+pub fill-accepted : (c : Call) → Fit 1 c → refusal fill c ≡ 0
 unfolding newDivisor names
 fill-accepted c f = is-accepted fill c (record { fit = f; names = refl })
 

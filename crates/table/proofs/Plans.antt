@@ -151,26 +151,26 @@ module _ (job : Job) (fig : Figures) (n : ℕ) (T : Table) (ok : Solved job fig 
       }
 
   -- So the left parts give one, S joins deep or more.
-  planned-in : (f S : ℕ) → S ≤ f → 0 < S → S < 2 ^ n → rowAt T S .cost < NONE → Plan S (planIn f T S)
-  unfolding planIn
+  planned-in : (f S : ℕ) → S ≤ f → 0 < S → S < 2 ^ n → rowAt T S .cost < NONE → Plan S (planIn f (T .lefts) S)
+  unfolding planIn rowAt
   planned-in zero S h p l c = absurd (omega arith)
   planned-in (suc f) S h p l c = by-test (larger S) (more (planned-in f)) (λ e. rw e (alone-planned S p l e))
     where
       L : ℕ
       L = rowAt T S .left
 
-      more : ((A : ℕ) → A ≤ f → 0 < A → A < 2 ^ n → rowAt T A .cost < NONE → Plan A (planIn f T A)) → larger S ≡ true
-          → Plan S (cond (larger S) (join (planIn f T L) (planIn f T (S - L))) (leaf (lowest S)))
+      more : ((A : ℕ) → A ≤ f → 0 < A → A < 2 ^ n → rowAt T A .cost < NONE → Plan A (planIn f (T .lefts) A)) → larger S ≡ true
+          → Plan S (cond (larger S) (join (planIn f (T .lefts) L) (planIn f (T .lefts) (S - L))) (leaf (lowest S)))
       more ih m =
           let k = best-split S l m .some c in
           let u = used-price job fig T S (sizeOf fig S) L (omega arith) in
           rw m
-          (join-planned S L (k .0) l u (sym (price-used job fig T S (sizeOf fig S) L u) ∙ k .1) (planIn f T L) (planIn f T (S - L))
+          (join-planned S L (k .0) l u (sym (price-used job fig T S (sizeOf fig S) L u) ∙ k .1) (planIn f (T .lefts) L) (planIn f (T .lefts) (S - L))
           (ih L (omega arith) (u .split .some) (omega arith) (omega (arith, u .left, ok .low)))
           (ih (S - L) (omega (arith, u .split .some)) (omega arith) (omega arith) (omega (arith, u .right, ok .low))))
 
   -- Where the row is not NONE, the left parts give such a tree.
-  pub reached : (S : ℕ) → 0 < S → S < 2 ^ n → rowAt T S .cost ≢ NONE → Plan S (planOf T S)
+  pub reached : (S : ℕ) → 0 < S → S < 2 ^ n → rowAt T S .cost ≢ NONE → Plan S (planOf (T .lefts) S)
   unfolding planOf
   reached S p l c = planned-in S S (omega arith) p l (omega (arith, cost-most S l))
 
@@ -200,5 +200,5 @@ module _ (job : Job) (fig : Figures) (n : ℕ) (T : Table) (ok : Solved job fig 
           by (yes e) = e
           by (no c) =
               let g = reached S p l c in
-              let o = sound-over (job .profile fig) S (planOf T S) (g .sound) (g .whole) in
-              absurd (omega (arith, f (planOf T S) o, g .cost, g .within))
+              let o = sound-over (job .profile fig) S (planOf (T .lefts) S) (g .sound) (g .whole) in
+              absurd (omega (arith, f (planOf (T .lefts) S) o, g .cost, g .within))

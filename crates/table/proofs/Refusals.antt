@@ -4,13 +4,14 @@ use native.Mathlib.Decide.{decLe, decLt}
 use native.Mathlib.Nat.{eq-or-lt-of-le}
 use native.Mathlib.Omega.{arith}
 use mathlib.Core.Path.{_≡_, refl, sym, _∙_}
-use mathlib.Core.Bool.{Bool, true, false, not, _&&_, _||_, cond, true≢false, and-eq-true-iff}
+use mathlib.Core.Bool.{Bool, true, false, not, _&&_, _||_, cond, and-eq-true-iff}
 use mathlib.Core.List.{List, [], _∷_}
 use mathlib.Core.Logic.{_≢_, _⊎_, inl, inr}
 use lib.Dec.{eqb, leb, ltb}
 use lib.Pow.{pow-pos}
 use lib.ListN.{length, getD, List·getD-eq-default}
 use borrow.Author.Tests.{eqb-true, eqb-false, eq-eqb, ne-eqb, leb-true, le-leb, lt-leb, ltb-false, lt-ltb, le-ltb, not-true}
+use Rattle.numbers.proofs.Tests.{neither}
 use Rattle.relations.specs.Pairs.{place}
 use Rattle.relations.specs.Sets.{MOST, first}
 use Rattle.relations.proofs.Places.{before-all}
@@ -27,7 +28,7 @@ use Rattle.table.specs.Inner.{Fit}
 
 -- ---- the first of several
 
-first-zero : (a b : ℕ) → first a b ≡ 0 → (a ≡ 0) × (b ≡ 0)
+pub first-zero : (a b : ℕ) → first a b ≡ 0 → (a ≡ 0) × (b ≡ 0)
 unfolding first
 first-zero zero b e = (refl, e)
 first-zero (suc a) b e = absurd (omega arith)
@@ -50,17 +51,13 @@ first-last k false = refl
 
 -- ---- a test that refuses
 
-passed-true : (k : ℕ) (b : Bool) → cond b 0 (suc k) ≡ 0 → b ≡ true
+pub passed-true : (k : ℕ) (b : Bool) → cond b 0 (suc k) ≡ 0 → b ≡ true
 passed-true k true e = refl
 passed-true k false e = absurd (omega arith)
 
-passed-false : (k : ℕ) (b : Bool) → cond b (suc k) 0 ≡ 0 → b ≡ false
+pub passed-false : (k : ℕ) (b : Bool) → cond b (suc k) 0 ≡ 0 → b ≡ false
 passed-false k true e = absurd (omega arith)
 passed-false k false e = refl
-
-neither : (a b : Bool) → (a || b) ≡ false → (a ≡ false) × (b ≡ false)
-neither true b e = absurd (true≢false e)
-neither false b e = (refl, e)
 
 -- ---- the single tests
 

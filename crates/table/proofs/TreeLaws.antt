@@ -1,11 +1,13 @@
 -- A tree over S by its joins: no relation 0, and at every join two parts with no relation in common; the sets of the parts add up to S.
--- And of the tree that a table holds for S: where it has no relation 0, its set is S, and it is made of the trees held for the two parts.
+-- And of the tree that left parts give for S: where it has no relation 0, its set is S, and it is made of the trees of the two parts.
 use Prim.Native.Nat.{ℕ, zero, suc, _+_, _-_, _≤_, _<_}
 use native.Mathlib.Decide.{le-ind}
 use native.Mathlib.Omega.{arith}
 use mathlib.Core.Path.{_≡_, refl, sym, ap, ap₂, _∙_, subst}
 use mathlib.Core.Bool.{Bool, true, false, cond, _||_}
+use mathlib.Core.List.{List}
 use lib.Dec.{eqb}
+use lib.ListN.{getD}
 use borrow.Author.Tests.{eqb-true, eq-eqb, leb-false}
 use Rattle.numbers.proofs.Tests.{same-test}
 use Rattle.relations.specs.Sets.{weight, mem, lowestTo, lowest, rest, larger, Apart}
@@ -13,7 +15,6 @@ use Rattle.relations.proofs.Members.{mem-zero, mem-weight, mem-alone, weight-po
 use Rattle.relations.proofs.Parts.{mem-sum}
 use Rattle.relations.proofs.Lowest.{alone}
 use Rattle.table.specs.Figures.{Figures}
-use Rattle.table.specs.Tables.{Table, rowAt}
 use Rattle.table.specs.Rule.{Job}
 use Rattle.table.specs.Trees.{Tree, leaf, join, times, setOf, Allowed, Over, costOf, treeCost, planIn, planOf}
 use Rattle.table.proofs.Reasoning.{by-test}
@@ -125,34 +126,38 @@ module _ (allows : ℕ → ℕ → Bool) where
       members-same (setOf x) S
       (λ k. once-same (mem k (setOf x)) (mem k S) (sym (sound-times x (over-sound S x o) k) ∙ o .once k))
 
--- ---- the tree that a table holds
+-- ---- the tree that left parts give
 
 -- A set that is not one of two or more is that of its lowest relation.
 pub leaf-set : (S : ℕ) → larger S ≡ false → setOf (leaf (lowest S)) ≡ S
 unfolding setOf larger
 leaf-set S e = alone S (omega (arith, leb-false 1 (rest S) e))
 
+join-set : (l r : Tree) → setOf (join l r) ≡ setOf l + setOf r
+unfolding setOf
+join-set l r = refl
+
 not-whole : Whole (leaf 0) → ⊥
 unfolding times
 not-whole z = omega arith
 
-module _ (T : Table) where
+module _ (lefts : List ℕ) where
   -- The two kinds of tree.
-  plan-leaf : (f S : ℕ) → larger S ≡ false → planIn (suc f) T S ≡ leaf (lowest S)
+  plan-leaf : (f S : ℕ) → larger S ≡ false → planIn (suc f) lefts S ≡ leaf (lowest S)
   unfolding planIn
   plan-leaf f S e = rw e
 
-  plan-node : (f S : ℕ) → larger S ≡ true → planIn (suc f) T S ≡ join (planIn f T (rowAt T S .left)) (planIn f T (S - rowAt T S .left))
+  plan-node : (f S : ℕ) → larger S ≡ true → planIn (suc f) lefts S ≡ join (planIn f lefts (getD lefts S 0)) (planIn f lefts (S - getD lefts S 0))
   unfolding planIn
   plan-node f S e = rw e
 
-  -- What is held for the empty set is relation 0, and so a tree without it is held for another set.
-  plan-empty : (f : ℕ) → planIn f T 0 ≡ leaf 0
+  -- What they give for the empty set is relation 0, and so a tree without it is that of another set.
+  plan-empty : (f : ℕ) → planIn f lefts 0 ≡ leaf 0
   unfolding planIn larger rest weight lowest lowestTo
   plan-empty zero = refl
   plan-empty (suc f) = refl
 
-  plan-some : (f S : ℕ) → Whole (planIn f T S) → 0 < S
+  plan-some : (f S : ℕ) → Whole (planIn f lefts S) → 0 < S
   plan-some f zero z = absurd (not-whole (rw (plan-empty f) at z))
   plan-some f (suc s) z = omega arith
 
@@ -160,51 +165,51 @@ module _ (T : Table) where
   record Halves (f S L : ℕ) : Type 0 where
     pub some : 0 < L
     pub less : L < S
-    pub left : Whole (planIn f T L)
-    pub right : Whole (planIn f T (S - L))
+    pub left : Whole (planIn f lefts L)
+    pub right : Whole (planIn f lefts (S - L))
 
-  halves : (f S : ℕ) → larger S ≡ true → Whole (planIn (suc f) T S) → Halves f S (rowAt T S .left)
+  halves : (f S : ℕ) → larger S ≡ true → Whole (planIn (suc f) lefts S) → Halves f S (getD lefts S 0)
   halves f S m z =
-      let L = rowAt T S .left in
-      let both : times 0 (planIn f T L) + times 0 (planIn f T (S - L)) ≡ 0 = unfold times in rw (plan-node f S m) at z in
-      let l : Whole (planIn f T L) = omega arith in
-      let r : Whole (planIn f T (S - L)) = omega arith in
+      let L : ℕ = getD lefts S 0 in
+      let both : times 0 (planIn f lefts L) + times 0 (planIn f lefts (S - L)) ≡ 0 = unfold times in rw (plan-node f S m) at z in
+      let l : Whole (planIn f lefts L) = omega arith in
+      let r : Whole (planIn f lefts (S - L)) = omega arith in
       record { some = plan-some f L l; less = omega (arith, plan-some f (S - L) r); left = l; right = r }
 
-  -- The set of a tree that is held for S and has no relation 0 is S.
-  plan-set : (f S : ℕ) → S ≤ f → Whole (planIn f T S) → setOf (planIn f T S) ≡ S
+  -- The set of a tree that they give for S and has no relation 0 is S.
+  plan-set : (f S : ℕ) → S ≤ f → Whole (planIn f lefts S) → setOf (planIn f lefts S) ≡ S
   plan-set zero S h z = absurd (omega (arith, plan-some zero S z))
   plan-set (suc f) S h z = by-test (larger S) (more (plan-set f)) (λ e. ap setOf (plan-leaf f S e) ∙ leaf-set S e)
     where
-      more : ((A : ℕ) → A ≤ f → Whole (planIn f T A) → setOf (planIn f T A) ≡ A) → larger S ≡ true → setOf (planIn (suc f) T S) ≡ S
+      more : ((A : ℕ) → A ≤ f → Whole (planIn f lefts A) → setOf (planIn f lefts A) ≡ A) → larger S ≡ true → setOf (planIn (suc f) lefts S) ≡ S
       more ih m =
-          let L = rowAt T S .left in
+          let L : ℕ = getD lefts S 0 in
           let w = halves f S m z in
           let l = ih L (omega (arith, w .less)) (w .left) in
           let r = ih (S - L) (omega (arith, w .some)) (w .right) in
-          ap setOf (plan-node f S m) ∙ unfold setOf in omega (arith, w .less)
+          ap setOf (plan-node f S m) ∙ join-set (planIn f lefts L) (planIn f lefts (S - L)) ∙ omega (arith, w .less)
 
   -- Such a tree is no more than S joins deep.
-  plan-more : (f S : ℕ) → S ≤ f → Whole (planIn (suc f) T S) → planIn (suc f) T S ≡ planIn f T S
+  plan-more : (f S : ℕ) → S ≤ f → Whole (planIn (suc f) lefts S) → planIn (suc f) lefts S ≡ planIn f lefts S
   plan-more zero S h z = absurd (omega (arith, plan-some (suc zero) S z))
   plan-more (suc f) S h z = by-test (larger S) (more (plan-more f)) (λ e. plan-leaf (suc f) S e ∙ sym (plan-leaf f S e))
     where
-      more : ((A : ℕ) → A ≤ f → Whole (planIn (suc f) T A) → planIn (suc f) T A ≡ planIn f T A) → larger S ≡ true
-          → planIn (suc (suc f)) T S ≡ planIn (suc f) T S
+      more : ((A : ℕ) → A ≤ f → Whole (planIn (suc f) lefts A) → planIn (suc f) lefts A ≡ planIn f lefts A) → larger S ≡ true
+          → planIn (suc (suc f)) lefts S ≡ planIn (suc f) lefts S
       more ih m =
-          let L = rowAt T S .left in
+          let L : ℕ = getD lefts S 0 in
           let w = halves (suc f) S m z in
           plan-node (suc f) S m
           ∙ ap₂ join (ih L (omega (arith, w .less)) (w .left)) (ih (S - L) (omega (arith, w .some)) (w .right))
           ∙ sym (plan-node f S m)
 
-  plan-enough : (f S : ℕ) → S ≤ f → Whole (planIn f T S) → planIn f T S ≡ planOf T S
+  plan-enough : (f S : ℕ) → S ≤ f → Whole (planIn f lefts S) → planIn f lefts S ≡ planOf lefts S
   unfolding planOf
   plan-enough f S h =
-      le-ind (λ (m : ℕ). Whole (planIn m T S) → planIn m T S ≡ planIn S T S) (λ _. refl)
+      le-ind (λ (m : ℕ). Whole (planIn m lefts S) → planIn m lefts S ≡ planIn S lefts S) (λ _. refl)
       (λ m k ih z. let e = plan-more m S k z in e ∙ ih (rw e at z)) f h
 
-  pub plan-alone : (S : ℕ) → 0 < S → larger S ≡ false → planOf T S ≡ leaf (lowest S)
+  pub plan-alone : (S : ℕ) → 0 < S → larger S ≡ false → planOf lefts S ≡ leaf (lowest S)
   unfolding planOf
   plan-alone zero p e = absurd (omega arith)
   plan-alone (suc s) p e = plan-leaf s (suc s) e
@@ -213,21 +218,21 @@ module _ (T : Table) where
   pub record Joins (S L : ℕ) : Type 0 where
     pub some : 0 < L
     pub less : L < S
-    pub tree : planOf T S ≡ join (planOf T L) (planOf T (S - L))
-    pub left : setOf (planOf T L) ≡ L
-    pub right : setOf (planOf T (S - L)) ≡ S - L
+    pub tree : planOf lefts S ≡ join (planOf lefts L) (planOf lefts (S - L))
+    pub left : setOf (planOf lefts L) ≡ L
+    pub right : setOf (planOf lefts (S - L)) ≡ S - L
 
-  pub plan-joins : (S : ℕ) → larger S ≡ true → Whole (planOf T S) → Joins S (rowAt T S .left)
+  pub plan-joins : (S : ℕ) → larger S ≡ true → Whole (planOf lefts S) → Joins S (getD lefts S 0)
   unfolding planOf
   plan-joins zero m z = absurd (omega (arith, plan-some zero 0 z))
   plan-joins (suc s) m z =
       let S = suc s in
-      let L = rowAt T S .left in
+      let L : ℕ = getD lefts S 0 in
       let w = halves s S m z in
       let a : L ≤ s = omega (arith, w .less) in
       let b : S - L ≤ s = omega (arith, w .some) in
-      let l : planIn s T L ≡ planIn L T L = plan-enough s L a (w .left) in
-      let r : planIn s T (S - L) ≡ planIn (S - L) T (S - L) = plan-enough s (S - L) b (w .right) in
+      let l : planIn s lefts L ≡ planIn L lefts L = plan-enough s L a (w .left) in
+      let r : planIn s lefts (S - L) ≡ planIn (S - L) lefts (S - L) = plan-enough s (S - L) b (w .right) in
       record {
         some = w .some;
         less = w .less;

@@ -17,8 +17,8 @@ module _ (job : Job) (fig : Figures) where
     -- Its size is that of the figures alone.
     pub size : rowAt T S .size ≡ sizeOf fig S
     -- The tree that the left parts give is over S and costs exactly the stored cost, which is within the limit.
-    pub over : rowAt T S .cost ≢ NONE → Over (job .profile fig) S (planOf T S)
-    pub cost : rowAt T S .cost ≢ NONE → treeCost job fig (planOf T S) ≡ rowAt T S .cost
+    pub over : rowAt T S .cost ≢ NONE → Over (job .profile fig) S (planOf (T .lefts) S)
+    pub cost : rowAt T S .cost ≢ NONE → treeCost job fig (planOf (T .lefts) S) ≡ rowAt T S .cost
     pub within : rowAt T S .cost ≢ NONE → rowAt T S .cost ≤ job .limit
     -- No tree over S within the limit costs less.
     pub least : (x : Tree) → Over (job .profile fig) S x → treeCost job fig x ≤ job .limit → rowAt T S .cost ≤ treeCost job fig x
@@ -35,8 +35,8 @@ pub record Optimal (c : Call) (r : Result) : Type 0 where
   pub rows : (S : ℕ) → 0 < S → S < 2 ^ c .n → Right (jobOf c) (c .figures) (r .table) S
   -- Where there is a plan, the tree read off the table uses each of the n relations once and costs what is answered, and the size answered
   -- is that of the whole.
-  pub plan : r .answer .number ≡ 0 → Over (jobOf c .profile (c .figures)) (allOf (c .n)) (planOf (r .table) (allOf (c .n)))
-  pub cost : r .answer .number ≡ 0 → treeCost (jobOf c) (c .figures) (planOf (r .table) (allOf (c .n))) ≡ r .answer .cost
+  pub plan : r .answer .number ≡ 0 → Over (jobOf c .profile (c .figures)) (allOf (c .n)) (planOf (r .table .lefts) (allOf (c .n)))
+  pub cost : r .answer .number ≡ 0 → treeCost (jobOf c) (c .figures) (planOf (r .table .lefts) (allOf (c .n))) ≡ r .answer .cost
   pub size : r .answer .number ≡ 0 → sizeOf (c .figures) (allOf (c .n)) ≡ r .answer .size
   -- "No plan" is answered exactly when every tree over all n relations costs more than the limit.
   pub none : (r .answer .number ≡ 7)

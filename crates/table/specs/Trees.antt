@@ -1,12 +1,12 @@
--- Trees, the sets that they are over, what they cost, and the tree that a table holds.
+-- Trees, the sets that they are over, what they cost, and the tree that a column of left parts gives.
 use Prim.Native.Nat.{ℕ, zero, suc, _+_, _-_}
 use mathlib.Core.Bool.{Bool, true, cond}
 use mathlib.Core.Path.{_≡_, refl}
-use mathlib.Core.List.{[], _∷_}
+use mathlib.Core.List.{List, [], _∷_}
 use lib.Dec.{eqb}
+use lib.ListN.{getD}
 use Rattle.relations.specs.Sets.{weight, mem, first, lowestTo, lowest, rest, larger}
 use Rattle.table.specs.Figures.{Figures, sizeOf}
-use Rattle.table.specs.Tables.{Table, columns, rowAt}
 use Rattle.table.specs.Rule.{Job}
 
 -- A tree is a relation or a join of two trees.
@@ -45,13 +45,14 @@ module _ (charge : ℕ → ℕ → ℕ → ℕ) (size : ℕ → ℕ) where
 unfoldable pub treeCost : Job → Figures → Tree → ℕ
 treeCost job fig = costOf (job .charge) (sizeOf fig)
 
--- The tree that the left parts of a table give for S, at most f joins deep.
-unfoldable pub planIn : ℕ → Table → ℕ → Tree
-planIn zero T S = leaf 0
-planIn (suc f) T S = cond (larger S) (join (planIn f T (rowAt T S .left)) (planIn f T (S - rowAt T S .left))) (leaf (lowest S))
+-- The tree that a column of left parts gives for S, at most f joins deep: of two or more relations, the tree of the left part joined with
+-- that of what is left.
+unfoldable pub planIn : ℕ → List ℕ → ℕ → Tree
+planIn zero lefts S = leaf 0
+planIn (suc f) lefts S = cond (larger S) (join (planIn f lefts (getD lefts S 0)) (planIn f lefts (S - getD lefts S 0))) (leaf (lowest S))
 
-unfoldable pub planOf : Table → ℕ → Tree
-planOf T S = planIn S T S
+unfoldable pub planOf : List ℕ → ℕ → Tree
+planOf lefts S = planIn S lefts S
 
 -- ---- computed: the tree ((1,2),3) is over the set of the three, and costs the charges of its two joins
 
@@ -66,7 +67,7 @@ costed : costOf (λ a b o. a + b + o) (λ S. S) tree ≡ (1 + 2 + 3) + (3 + 4 + 
 unfolding weight tree setOf costOf
 costed = refl
 
--- It is the tree of a table in which row 7 has the left part 3 and row 3 the left part 1.
-read : planOf (columns [] [] (0 ∷ 0 ∷ 0 ∷ 1 ∷ 0 ∷ 0 ∷ 0 ∷ 3 ∷ [])) 7 ≡ tree
-unfolding weight mem first lowestTo lowest rest larger tree rowAt planIn planOf
+-- It is the tree of a column in which row 7 has the left part 3 and row 3 the left part 1.
+read : planOf (0 ∷ 0 ∷ 0 ∷ 1 ∷ 0 ∷ 0 ∷ 0 ∷ 3 ∷ []) 7 ≡ tree
+unfolding weight mem first lowestTo lowest rest larger tree planIn planOf
 read = refl

@@ -1,8 +1,9 @@
--- The check is what the definition computes to.
-use mathlib.Core.Path.{refl, ap}
+-- Each check is what the definition computes to.
+use mathlib.Core.Path.{refl, ap, _∙_}
 use borrow.Author.Needs.{needs}
 use Rattle.table.specs.Results.{Result}
-use Rattle.cases.specs.Cases.{passes}
+use Rattle.newick.specs.Results.{Result as Print}
+use Rattle.cases.specs.Cases.{passes, shown}
 use Rattle.cases.proofs.case_1.Statement.{statement}
 use Rattle.cases.proofs.case_1.Tie as tie
 
@@ -10,8 +11,19 @@ expect-requires : tie.Need-expect-requires
 unfolding passes
 expect-requires c _ = rw (c .is-plan .ensures, ap (λ (r : Result). r .answer) (c .before .before .before .before .fill .ensures .0)) refl
 
+expect-requires-2 : tie.Need-expect-requires-2
+unfolding passes
+expect-requires-2 c _ =
+    let print = c .before .before .before .before in
+    let fill = print .before .before .before .before .before .before .before .before .before in
+    c .same .ensures .1
+    (ap (λ (p : Print). p .room) (print .print .ensures)
+    ∙ ap (λ (r : Result). shown 1 (r .table) 2 .room) (fill .fill .ensures .0))
+
 pub case-1-spec : {M : Type 1} → statement M
 case-1-spec =
     tie.close
     (tie.spec (λ c. search needs) (λ c. search needs) (λ c. search needs) (λ c. search needs) (λ c. search needs)
-    (λ _ _. tt) (λ _ _. tt) expect-requires (λ _. tt))
+    (λ _ _. tt) (λ _ _. tt) expect-requires
+    (λ c. search needs) (λ c. search needs) (λ c. search needs) (λ _ _. tt) (λ c. search needs) (λ c. search needs) (λ _ _. tt)
+    expect-requires-2 (λ _. tt))

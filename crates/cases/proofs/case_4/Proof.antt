@@ -6,7 +6,8 @@ use borrow.Author.Needs.{needs}
 use borrow.Author.Tests.{eq-eqb}
 use Rattle.table.specs.Requests.{fill, editCount}
 use Rattle.table.specs.Results.{Result, resultOf, result}
-use Rattle.cases.specs.Cases.{passes, LIMIT, three}
+use Rattle.newick.specs.Results.{Result as Print}
+use Rattle.cases.specs.Cases.{passes, shown, LIMIT, three}
 use Rattle.cases.proofs.case_4.Statement.{statement}
 use Rattle.cases.proofs.case_4.Tie as tie
 
@@ -21,7 +22,7 @@ edited :
     (c .edit-count .last .1 .1 .1 .1 .1 .1 .0) (c .edit-count .last .1 .1 .1 .1 .1 .1 .1 .0)
     ≡ again (result fill three)
 edited c =
-    c .edit-count .ensures .0 ∙ ap again (c .before .before .before .before .before .before .before .before .before .fill .ensures .0)
+    c .edit-count .ensures .0 ∙ ap again (c .before .before .before .before .before .before .before .before .before .fill-three .ensures)
 
 expect-requires : tie.Need-expect-requires
 unfolding passes
@@ -39,19 +40,17 @@ expect-requires-3 c _ =
 expect-requires-4 : tie.Need-expect-requires-4
 unfolding passes
 expect-requires-4 c _ =
-    eq-eqb _ _ (ap (λ (r : Result). getD (r .table .lefts) 7 0) (edited (c .before .before .before .before .before .before .before .before .before .before .before)))
-
-expect-requires-5 : tie.Need-expect-requires-5
-unfolding passes
-expect-requires-5 c _ =
-    eq-eqb _ _ (ap (λ (r : Result). getD (r .table .lefts) 5 0) (edited (c .before .before .before .before .before .before .before .before .before .before .before .before)))
+    let print = c .before .before .before .before in
+    let sized = print .before .before .before .before in
+    let edit = sized .before .before .before .before .before .before .before .before .before .before .before in
+    c .same .ensures .1
+    (ap (λ (p : Print). p .room) (print .print .ensures)
+    ∙ ap (λ (r : Result). shown 3 (r .table) 10 .room) (edited edit))
 
 pub case-4-spec : {M : Type 1} → statement M
 case-4-spec =
     tie.close
     (tie.spec
-    (λ c. search needs)
-    (λ c. search needs)
     (λ c. search needs)
     (λ c. search needs)
     (λ c. search needs)
@@ -71,7 +70,11 @@ case-4-spec =
     (λ _ _. tt)
     expect-requires-3
     (λ c. search needs)
-    expect-requires-4
     (λ c. search needs)
-    expect-requires-5
+    (λ c. search needs)
+    (λ _ _. tt)
+    (λ c. search needs)
+    (λ c. search needs)
+    (λ _ _. tt)
+    expect-requires-4
     (λ _. tt))
