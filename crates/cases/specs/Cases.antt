@@ -3,6 +3,7 @@
 use Prim.Native.Nat.{ℕ, zero, suc, _^_}
 use mathlib.Core.Bool.{Bool, true, false, _&&_, cond}
 use mathlib.Core.List.{List, [], _∷_, _++_}
+use mathlib.Core.Path.{_≡_}
 use lib.Dec.{eqb}
 use lib.ListN.{length, replicate, drop}
 use Prim.Native.String.{String}
@@ -52,6 +53,10 @@ isPlan a cost size = eqb (a .number) 0 && eqb (a .cost) cost && eqb (a .size) si
 unfoldable pub isText : PrintAnswer → ℕ → Bool
 isText a long = eqb (a .number) 0 && eqb (a .length) long
 
+-- Print answers with this text, which fills the room.
+abbrev pub Fills : Print → List ℕ → Type 0
+Fills p text = (p .answer ≡ record { number = 0; length = length text }) × (p .room ≡ text)
+
 -- The room lent for a text: k bytes that hold something else.
 abbrev pub lent : ℕ → List ℕ
 lent k = replicate k 9
@@ -61,11 +66,12 @@ unfoldable pub shown : ℕ → Table → ℕ → Print
 shown n T k = printed n (T .costs) (T .lefts) (lent k)
 
 -- The answer is a plan of this cost and this size, what is left for n relations are these sizes, and in a room of the most bytes that are
--- ever needed this text is printed, and past it nothing.
+-- ever needed print answers with this text, writes it, and past it nothing.
 unfoldable pub holds : ℕ → Result → ℕ → ℕ → List ℕ → String → Bool
 holds n r cost size sizes text =
     isPlan (r .answer) cost size
     && sameList (r .table .sizes) sizes
+    && isText (shown n (r .table) 64 .answer) (length (bytes text))
     && sameList (shown n (r .table) 64 .room) (bytes text ++ drop (length (bytes text)) (lent 64))
 
 -- The sets below k that a request touches, in rising number.

@@ -1,14 +1,16 @@
 // Document 01's cases through the real functions. The same cases pass by the definitions as one statement, proofs/Passed.antt.
 // Before a fill each column holds 9 throughout, and none of it is left after; so does the room for a text before it is printed, where 9 is
 // a tab.
+ghost use mathlib.Core.Bool.{true};
+ghost use mathlib.Core.Logic.{_↔_};
 ghost use mathlib.Core.Path.{_≡_};
 ghost use lib.Dec.{eqb};
 ghost use Rattle.table.specs.Requests.{fill};
 ghost use Rattle.table.specs.Demands.{onto};
 ghost use Rattle.table.specs.Results.{answer, resultOf, result};
 ghost use Rattle.table.specs.Tables.{columns};
-ghost use Rattle.newick.specs.Results.{answer as printAnswer};
-ghost use Rattle.cases.specs.Cases.{Case, passes, isPlan, isText, sameList, widest, three};
+ghost use Rattle.newick.specs.Results.{answer as printAnswer, printed};
+ghost use Rattle.cases.specs.Cases.{Case, passes, isPlan, isText, Fills, sameList, widest, three};
 use charges::Charged;
 use newick::Printed;
 use table::Planned;
@@ -47,8 +49,7 @@ fn case_1() {
     );
     check::expect(is_plan(found, 0, 10));
     let mut text: [u8; 2] = [9; 2];
-    newick::print(1, &costs, &lefts, &mut text);
-    check::expect(check::same(&text, b"1;"));
+    check::expect(is_printed(1, &costs, &lefts, &mut text, b"1;"));
 }
 
 // The size is held at 4,294,967,295, and the cost is equal to it: that limit accepts, and one less gives 7.
@@ -88,8 +89,7 @@ fn case_3() {
     let expected: [u32; 8] = [0, 10, 20, 20, 30, 300, 86, 86];
     check::expect(are_sizes(&sizes, &expected));
     let mut text: [u8; 10] = [9; 10];
-    newick::print(3, &costs, &lefts, &mut text);
-    check::expect(check::same(&text, b"((1,2),3);"));
+    check::expect(is_printed(3, &costs, &lefts, &mut text, b"((1,2),3);"));
 }
 
 // A fill of case 3's three relations.
@@ -127,8 +127,7 @@ fn case_4() {
     let expected: [u32; 8] = [0, 10, 2000, 2000, 30, 300, 8572, 8572];
     check::expect(are_sizes(&sizes, &expected));
     let mut text: [u8; 10] = [9; 10];
-    newick::print(3, &costs, &lefts, &mut text);
-    check::expect(check::same(&text, b"(2,(1,3));"));
+    check::expect(is_printed(3, &costs, &lefts, &mut text, b"(2,(1,3));"));
 }
 
 fn case_5() {
@@ -174,8 +173,7 @@ fn case_8() {
     check::expect(is_short_text(refused));
     check::expect(check::same(&short, b"\t\t\t\t\t\t\t\t\t"));
     let mut long: [u8; 10] = [9; 10];
-    let printed = newick::print(3, &costs, &lefts, &mut long);
-    check::expect(is_text(printed, 10));
+    check::expect(is_printed(3, &costs, &lefts, &mut long, b"((1,2),3);"));
 }
 
 // Whether the answer is a plan of this cost and this size.
@@ -229,6 +227,17 @@ fn is_short_text(found: Printed) -> bool
         return true;
     }
     false
+}
+
+// Whether print answers with this text, which fills the room.
+fn is_printed(n: u32, costs: &[u64], lefts: &[u16], room: &mut [u8], text: &[u8]) -> bool
+    ensures { λ r. ⌜ (r ≡ true) ↔ Fills (printed n (now (costs .entry)) (now (lefts .entry)) (now (room .entry))) (now (text .entry)) ⌝ }
+{
+    let found = newick::print(n, costs, lefts, room);
+    if !is_text(found, text.len()) {
+        return false;
+    }
+    check::same(room, text)
 }
 
 // Whether the answer is a text of this length.

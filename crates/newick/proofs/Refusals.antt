@@ -8,7 +8,7 @@ use mathlib.Core.Logic.{_≢_}
 use mathlib.Core.Path.{_≡_, subst}
 use lib.Dec.{ltb}
 use lib.ListN.{length, getD}
-use borrow.Author.Tests.{eqb-false, eq-eqb, ne-eqb, le-leb, ltb-false}
+use borrow.Author.Tests.{eqb-false, eq-eqb, ne-eqb, ltb-false}
 use Rattle.numbers.proofs.Tests.{neither, is-false}
 use Rattle.relations.specs.Sets.{MOST, allOf, first}
 use Rattle.relations.proofs.Named.{all-is, all-none, all-some}
@@ -42,10 +42,6 @@ some-allowed (suc n) h = (omega arith, by (decLe (suc n) MOST))
     by : Dec (suc n ≤ MOST) → suc n ≤ MOST
     by (yes l) = l
     by (no l) = absurd (h (all-none (suc n) (omega arith)))
-
-pub is-allowed : (n : ℕ) → 1 ≤ n → n ≤ MOST → isRelation MOST n ≡ true
-unfolding isRelation
-is-allowed n h l = rw (le-leb 1 n h, le-leb n MOST l)
 
 -- ---- columns that hold a plan
 

@@ -16,11 +16,11 @@ use Rattle.table.specs.Trees.{Tree, planOf}
 use Rattle.table.proofs.Demand2.{optimal}
 use Rattle.table.proofs.Demand3.{fit-changed, fill-accepted, demand-3}
 use Rattle.table.proofs.Mending.{mend-room}
-use Rattle.table.proofs.Refusals.{accepted, result-done}
+use Rattle.table.proofs.Refusals.{relation-is, accepted, result-done}
 use Rattle.newick.specs.Results.{shortColumn, unwritten, written, printed, Result as Print}
 use Rattle.newick.specs.Shows.{ShowsPlan}
 use Rattle.newick.specs.Texts.{wholeText, needed}
-use Rattle.newick.proofs.Refusals.{HoldsPlan, is-allowed, only-room, printed-done, printed-refused}
+use Rattle.newick.proofs.Refusals.{HoldsPlan, only-room, printed-done, printed-refused}
 use Rattle.newick.proofs.TextLaws.{text-first}
 use Rattle.newick.proofs.WalkLaws.{over-walked}
 
@@ -51,7 +51,7 @@ unfolding shortColumn rowAt jobOf
 optimal-holds c r some few room o z =
     let all = all-some (c .n) some few in
     record {
-      relations = is-allowed (c .n) some few;
+      relations = relation-is MOST (c .n) some few;
       columns = rw (le-ltb _ _ (room .costs), le-ltb _ _ (room .lefts));
       plan = λ e. omega (arith, o .none .1 (o .rows (allOf (c .n)) (all .0) (all .1) .none .0 e));
       tree = over-walked (r .table .lefts) _ (allOf (c .n)) (o .plan z);

@@ -2,18 +2,20 @@
 use Prim.Native.Nat.{ℕ, zero, suc, _+_, _-_, _*_, _^_, _≤_, _<_}
 use native.Mathlib.Decide.{le-ind}
 use native.Mathlib.Omega.{arith}
-use mathlib.Core.Bool.{Bool, true, false, cond, _&&_, false≢true}
+use mathlib.Core.Bool.{Bool, true, false, false≢true}
 use mathlib.Core.List.{List, [], _∷_, _++_, append-assoc}
 use mathlib.Core.Path.{_≡_, refl, sym, ap, ap₂, _∙_, subst}
 use lib.Dec.{leb, eqb}
 use lib.ListN.{length, length-append}
-use borrow.Author.Tests.{eq-eqb, ne-eqb, le-leb, leb-true, leb-false}
+use borrow.Author.Tests.{eq-eqb, ne-eqb, leb-true, leb-false}
 use Rattle.numbers.specs.Texts.{bytes, digits, decimal}
 use Rattle.numbers.proofs.Decimal.{isDigit, NoDigit, FirstDigit, decimal-tells, decimal-digit, decimal-short, decimal-long}
-use Rattle.numbers.proofs.Tests.{both, first-true, second-true}
 use Rattle.relations.proofs.Named.{mem-all}
 use Rattle.table.specs.Trees.{Tree, leaf, join, times, Over}
+use Rattle.table.specs.Requests.{isRelation}
 use Rattle.table.proofs.Reasoning.{by-test}
+use Rattle.table.proofs.Refusals.{is-relation, relation-is}
+use Rattle.table.proofs.TreeLaws.{once}
 use Rattle.newick.specs.Texts.{text, wholeText, digitsTo, needed}
 
 -- ---- two different trees have different texts
@@ -70,17 +72,6 @@ unfoldable sumTo : (ℕ → ℕ) → ℕ → ℕ
 sumTo f zero = 0
 sumTo f (suc n) = sumTo f n + f (suc n)
 
--- Once or not at all, as a test says.
-abbrev once : Bool → ℕ
-once b = cond b 1 0
-
--- k is one of 1 to n.
-abbrev within : ℕ → ℕ → Bool
-within n k = leb 1 k && leb k n
-
-within-is : (n k : ℕ) → 1 ≤ k → k ≤ n → within n k ≡ true
-within-is n k h l = both (leb 1 k) (leb k n) (le-leb 1 k h) (le-leb k n l)
-
 -- The sum of two functions.
 sum-add : (f g : ℕ → ℕ) (n : ℕ) → sumTo (λ k. f k + g k) n ≡ sumTo f n + sumTo g n
 unfolding sumTo
@@ -118,11 +109,11 @@ module _ (f : ℕ → ℕ) where
       (λ e. let b = leb-false j n e in omega (arith, only-past j n b, only-same j (suc n) (omega arith)))
 
   -- In a tree with no relation but 1 to n the sum over the leaves is that over 1 to n, each counted as often as it stands there.
-  leaves-sum : (n : ℕ) (t : Tree) → ((k : ℕ) → within n k ≡ false → times k t ≡ 0) → leaves f t ≡ sumTo (λ k. times k t * f k) n
+  leaves-sum : (n : ℕ) (t : Tree) → ((k : ℕ) → isRelation n k ≡ false → times k t ≡ 0) → leaves f t ≡ sumTo (λ k. times k t * f k) n
   unfolding leaves times
   leaves-sum n (leaf j) h =
-      by-test (within n j)
-      (λ e. sym (only-sum j n (leb-true 1 j (first-true (leb 1 j) (leb j n) e)) (leb-true j n (second-true (leb 1 j) (leb j n) e))))
+      by-test (isRelation n j)
+      (λ e. let b = is-relation n j e in sym (only-sum j n (b .0) (b .1)))
       (λ e. absurd (omega (arith, h j e, ap once (eq-eqb j j refl))))
   leaves-sum n (join l r) h =
       ap₂ (λ (a b : ℕ). a + b) (leaves-sum n l (λ k e. omega (arith, h k e))) (leaves-sum n r (λ k e. omega (arith, h k e)))
@@ -131,11 +122,12 @@ module _ (f : ℕ → ℕ) where
 
   -- In a tree over all n relations the sum over the leaves is the sum over 1 to n.
   leaves-over : (allows : ℕ → ℕ → Bool) (n : ℕ) (t : Tree) → Over allows (2 ^ n - 1) t → leaves f t ≡ sumTo f n
+  unfolding isRelation
   leaves-over allows n t o =
       leaves-sum n t (λ k e. counted k ∙ ap once e)
-      ∙ sum-same (λ k. times k t * f k) f n (λ k h l. rw (counted k, within-is n k h l) (omega arith))
+      ∙ sum-same (λ k. times k t * f k) f n (λ k h l. rw (counted k, relation-is n k h l) (omega arith))
     where
-      counted : (k : ℕ) → times k t ≡ once (within n k)
+      counted : (k : ℕ) → times k t ≡ once (isRelation n k)
       counted k = o .once k ∙ ap once (mem-all k n)
 
 -- ---- the length of a text

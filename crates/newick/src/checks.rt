@@ -32,7 +32,7 @@ pub fn check(n: u32, costs: &[u64], lefts: &[u16], room: usize) -> Checked
     if room < texts::needed(n) {
         return Checked::Failed(Refusal::ShortText);
     }
-    // Where the full row has no plan its left part is empty, and the walk ends at once.
+    // In a filled table a full row without a plan has an empty left part, and the walk ends at once.
     let cost = costs[full];
     let broken = walks::meets_fault(lefts, all);
     if cost == u64::MAX {

@@ -43,9 +43,6 @@ weight-part k S m j n = subst (λ (x : ℕ). mem x S ≡ true) (sym (mem-alone j
 
 -- ---- sets apart, and their sum
 
-pub apart-comm : (A B : ℕ) → Apart A B → Apart B A
-apart-comm A B h k b a = h k a b
-
 pub apart-sub : (A B C : ℕ) → Apart A B → Part C B → Apart A C
 apart-sub A B C h g k a c = h k a (g k c)
 

@@ -61,6 +61,15 @@ passed-false k false e = refl
 
 -- ---- the single tests
 
+-- To name a relation is to be one of 1 to n.
+pub is-relation : (n k : ℕ) → isRelation n k ≡ true → (1 ≤ k) × (k ≤ n)
+unfolding isRelation
+is-relation n k e = let b = and-eq-true-iff (leb 1 k) (leb k n) .0 e in (leb-true 1 k (b .0), leb-true k n (b .1))
+
+pub relation-is : (n k : ℕ) → 1 ≤ k → k ≤ n → isRelation n k ≡ true
+unfolding isRelation
+relation-is n k h l = rw (le-leb 1 k h, le-leb k n l)
+
 zero-none : (ds : List ℕ) → anyZero ds ≡ false → (k : ℕ) → 1 ≤ getD ds k 1
 unfolding anyZero
 zero-none [] e k = omega arith
@@ -142,7 +151,7 @@ number-pos Name = omega arith
 -- ---- all of them
 
 pub fit : (d : ℕ) (c : Call) → unfit d c ≡ 0 → Fit d c
-unfolding unfit badFigures inOrder isRelation
+unfolding unfit badFigures inOrder
 fit d c e =
     let e1 = first-zero _ _ e in
     let e2 = first-zero _ _ (e1 .1) in
@@ -152,12 +161,12 @@ fit d c e =
     let f2 = first-zero _ _ (f1 .1) in
     let f3 = first-zero _ _ (f2 .1) in
     let f4 = first-zero _ _ (f3 .1) in
-    let n = and-eq-true-iff (leb 1 (c .n)) (leb (c .n) MOST) .0 (passed-true 0 _ (f1 .0)) in
+    let n = is-relation MOST (c .n) (passed-true 0 _ (f1 .0)) in
     let z = neither (eqb d 0) (anyZero (c .figures .divisors)) (passed-false 2 _ (f4 .0)) in
     let new = eqb-false d 0 (z .0) in
     record {
-      some = leb-true 1 (c .n) (n .0);
-      few = leb-true (c .n) MOST (n .1);
+      some = n .0;
+      few = n .1;
       counts = eqb-true _ _ (passed-true 1 _ (f2 .0));
       divisors = eqb-true _ _ (passed-true 1 _ (f3 .0));
       new = omega arith;
@@ -180,15 +189,14 @@ unfolding unfit inOrder first
 only-columns d c e p l = rw (← e, ← p, le-leb (c .limit) (2 ^ 60) l) (first-last 6 (short (c .table) (2 ^ c .n)))
 
 pub few-figures : (n d : ℕ) (fig : Figures) → badFigures n d fig ≡ 0 → n ≤ MOST
-unfolding badFigures inOrder isRelation
-few-figures n d fig e = leb-true n MOST (and-eq-true-iff (leb 1 n) (leb n MOST) .0 (passed-true 0 _ (first-zero _ _ e .0)) .1)
+unfolding badFigures inOrder
+few-figures n d fig e = is-relation MOST n (passed-true 0 _ (first-zero _ _ e .0)) .1
 
 pub is-fit : (d : ℕ) (c : Call) → Fit d c → unfit d c ≡ 0
-unfolding unfit badFigures inOrder isRelation first
+unfolding unfit badFigures inOrder first
 is-fit d c f =
     rw (
-      le-leb 1 (c .n) (f .some),
-      le-leb (c .n) MOST (f .few),
+      relation-is MOST (c .n) (f .some) (f .few),
       eq-eqb _ _ (f .counts),
       eq-eqb _ _ (f .divisors),
       ne-eqb d 0 (omega (arith, f .new)),
@@ -216,10 +224,6 @@ fit-onto d c T f r = rw (f .counts) (record {
 -- ---- names
 
 -- What the names of an edit are.
-pub is-relation : (n k : ℕ) → isRelation n k ≡ true → (1 ≤ k) × (k ≤ n)
-unfolding isRelation
-is-relation n k e = let b = and-eq-true-iff (leb 1 k) (leb k n) .0 e in (leb-true 1 k (b .0), leb-true k n (b .1))
-
 pub record IsPair (n i j : ℕ) : Type 0 where
   pub one : isRelation n i ≡ true
   pub other : isRelation n j ≡ true

@@ -22,7 +22,7 @@ use Rattle.table.proofs.Reasoning.{by-test}
 -- ---- what stands once
 
 -- Once or not at all, as a test says.
-abbrev once : Bool → ℕ
+abbrev pub once : Bool → ℕ
 once b = cond b 1 0
 
 once-true : (b : Bool) → b ≡ true → once b ≡ 1

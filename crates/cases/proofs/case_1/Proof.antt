@@ -1,6 +1,7 @@
 -- Each check is what the definition computes to.
-use mathlib.Core.Path.{refl, ap, _∙_}
+use mathlib.Core.Path.{refl, ap}
 use borrow.Author.Needs.{needs}
+use Rattle.table.specs.Requests.{fill}
 use Rattle.table.specs.Results.{Result}
 use Rattle.newick.specs.Results.{Result as Print}
 use Rattle.cases.specs.Cases.{passes, shown}
@@ -14,16 +15,26 @@ expect-requires c _ = rw (c .is-plan .ensures, ap (λ (r : Result). r .answer) (
 expect-requires-2 : tie.Need-expect-requires-2
 unfolding passes
 expect-requires-2 c _ =
-    let print = c .before .before .before .before in
-    let fill = print .before .before .before .before .before .before .before .before .before in
-    c .same .ensures .1
-    (ap (λ (p : Print). p .room) (print .print .ensures)
-    ∙ ap (λ (r : Result). shown 1 (r .table) 2 .room) (fill .fill .ensures .0))
+    let fill = c .before .before .before .before .before .before .before .before .before .before .before in
+    let e = ap (λ (r : Result). shown 1 (r .table) 2) (fill .fill .ensures .0) in
+    c .before .is-printed .ensures .1 (ap (λ (p : Print). p .answer) e, ap (λ (p : Print). p .room) e)
 
 pub case-1-spec : {M : Type 1} → statement M
 case-1-spec =
     tie.close
-    (tie.spec (λ c. search needs) (λ c. search needs) (λ c. search needs) (λ c. search needs) (λ c. search needs)
-    (λ _ _. tt) (λ _ _. tt) expect-requires
-    (λ c. search needs) (λ c. search needs) (λ c. search needs) (λ _ _. tt) (λ c. search needs) (λ c. search needs) (λ _ _. tt)
-    expect-requires-2 (λ _. tt))
+    (tie.spec
+    (λ c. search needs)
+    (λ c. search needs)
+    (λ c. search needs)
+    (λ c. search needs)
+    (λ c. search needs)
+    (λ _ _. tt)
+    (λ _ _. tt)
+    expect-requires
+    (λ c. search needs)
+    (λ c. search needs)
+    (λ c. search needs)
+    (λ c. search needs)
+    (λ _ _. tt)
+    expect-requires-2
+    (λ _. tt))

@@ -1,6 +1,7 @@
 -- Each check is what the definition computes to.
-use mathlib.Core.Path.{refl, ap, _∙_}
+use mathlib.Core.Path.{refl, ap}
 use borrow.Author.Needs.{needs}
+use Rattle.table.specs.Requests.{fill}
 use Rattle.table.specs.Results.{Result}
 use Rattle.newick.specs.Results.{Result as Print}
 use Rattle.cases.specs.Cases.{passes, shown}
@@ -19,12 +20,10 @@ expect-requires-2 c _ =
 expect-requires-3 : tie.Need-expect-requires-3
 unfolding passes
 expect-requires-3 c _ =
-    let print = c .before .before .before .before in
-    let sized = print .before .before .before .before in
+    let sized = c .before .before .before .before .before .before in
     let fill = sized .before .before .before .before .before .before .before .before .before in
-    c .same .ensures .1
-    (ap (λ (p : Print). p .room) (print .print .ensures)
-    ∙ ap (λ (r : Result). shown 3 (r .table) 10 .room) (fill .fill-three .ensures))
+    let e = ap (λ (r : Result). shown 3 (r .table) 10) (fill .fill-three .ensures) in
+    c .before .is-printed .ensures .1 (ap (λ (p : Print). p .answer) e, ap (λ (p : Print). p .room) e)
 
 pub case-3-spec : {M : Type 1} → statement M
 case-3-spec =
@@ -42,8 +41,6 @@ case-3-spec =
     expect-requires-2
     (λ c. search needs)
     (λ c. search needs)
-    (λ c. search needs)
-    (λ _ _. tt)
     (λ c. search needs)
     (λ c. search needs)
     (λ _ _. tt)

@@ -40,12 +40,10 @@ expect-requires-3 c _ =
 expect-requires-4 : tie.Need-expect-requires-4
 unfolding passes
 expect-requires-4 c _ =
-    let print = c .before .before .before .before in
-    let sized = print .before .before .before .before in
+    let sized = c .before .before .before .before .before .before in
     let edit = sized .before .before .before .before .before .before .before .before .before .before .before in
-    c .same .ensures .1
-    (ap (λ (p : Print). p .room) (print .print .ensures)
-    ∙ ap (λ (r : Result). shown 3 (r .table) 10 .room) (edited edit))
+    let e = ap (λ (r : Result). shown 3 (r .table) 10) (edited edit) in
+    c .before .is-printed .ensures .1 (ap (λ (p : Print). p .answer) e, ap (λ (p : Print). p .room) e)
 
 pub case-4-spec : {M : Type 1} → statement M
 case-4-spec =
@@ -71,8 +69,6 @@ case-4-spec =
     expect-requires-3
     (λ c. search needs)
     (λ c. search needs)
-    (λ c. search needs)
-    (λ _ _. tt)
     (λ c. search needs)
     (λ c. search needs)
     (λ _ _. tt)

@@ -8,19 +8,12 @@ use Rattle.cases.specs.Cases.{passes, shown, three}
 use Rattle.cases.proofs.case_8.Statement.{statement}
 use Rattle.cases.proofs.case_8.Tie as tie
 
--- What print answered and left in the short room, and in the long one.
+-- What print answered and left in the short room.
 short : (c : tie.After-print) → resultOf (c .print .result) (c .print .last .1 .1 .1 .0) ≡ shown 3 (result fill three .table) 9
 unfolding shown
 short c =
     c .print .ensures
     ∙ ap (λ (r : Result). shown 3 (r .table) 9) (c .before .before .before .before .before .before .before .fill-three .ensures)
-
-long : (c : tie.After-print2) → resultOf (c .print2 .result) (c .print2 .last .1 .1 .1 .0) ≡ shown 3 (result fill three .table) 10
-unfolding shown
-long c =
-    let print = c .before .before .before .before .before .before .before .before .before .before .before in
-    c .print2 .ensures
-    ∙ ap (λ (r : Result). shown 3 (r .table) 10) (print .before .before .before .before .before .before .before .fill-three .ensures)
 
 expect-requires : tie.Need-expect-requires
 unfolding passes
@@ -32,7 +25,11 @@ expect-requires-2 c _ = c .same .ensures .1 (ap (λ (p : Print). p .room) (short
 
 expect-requires-3 : tie.Need-expect-requires-3
 unfolding passes
-expect-requires-3 c _ = rw (c .is-text .ensures, ap (λ (p : Print). p .answer) (long (c .before .before))) refl
+expect-requires-3 c _ =
+    let print = c .before .before .before .before .before .before .before .before .before .before .before .before .before in
+    let fill = print .before .before .before .before .before .before .before in
+    let e = ap (λ (r : Result). shown 3 (r .table) 10) (fill .fill-three .ensures) in
+    c .before .is-printed .ensures .1 (ap (λ (p : Print). p .answer) e, ap (λ (p : Print). p .room) e)
 
 pub case-8-spec : {M : Type 1} → statement M
 case-8-spec =
@@ -55,7 +52,7 @@ case-8-spec =
     (λ c. search needs)
     (λ c. search needs)
     (λ c. search needs)
-    (λ _ _. tt)
+    (λ c. search needs)
     (λ _ _. tt)
     expect-requires-3
     (λ _. tt))

@@ -13,10 +13,10 @@ use Rattle.relations.proofs.Named.{all-is}
 use Rattle.table.specs.Requests.{isRelation}
 use Rattle.table.specs.Results.{inOrder}
 use Rattle.table.specs.Rule.{NONE}
-use Rattle.table.proofs.Refusals.{edge}
+use Rattle.table.proofs.Refusals.{relation-is, edge}
 use Rattle.newick.specs.Texts.{needed}
 use Rattle.newick.specs.Results.{shortColumn, unprinted}
-use Rattle.newick.proofs.Refusals.{none-allowed, some-allowed, is-allowed}
+use Rattle.newick.proofs.Refusals.{none-allowed, some-allowed}
 use Rattle.newick.proofs.checks.check.Statement.{statement}
 use Rattle.newick.proofs.checks.check.Tie as tie
 
@@ -29,7 +29,7 @@ module _ (c : tie.Else1) where
   bounds = some-allowed _ (λ e. c .if1 .left (c .before .before .all .ensures ∙ e))
 
   allowed : isRelation MOST (start .args .n) ≡ true
-  allowed = is-allowed _ (bounds .0) (bounds .1)
+  allowed = relation-is MOST _ (bounds .0) (bounds .1)
 
   full : c .before .before .all .result .number ≡ 2 ^ start .args .n - 1
   full = c .before .before .all .ensures ∙ all-is _ (bounds .1)
