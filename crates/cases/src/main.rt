@@ -5,16 +5,20 @@ ghost use mathlib.Core.Bool.{true};
 ghost use mathlib.Core.Logic.{_↔_};
 ghost use mathlib.Core.Path.{_≡_};
 ghost use lib.Dec.{eqb};
+ghost use Rattle.numbers.specs.Texts.{sameList};
 ghost use Rattle.table.specs.Requests.{fill};
 ghost use Rattle.table.specs.Demands.{onto};
 ghost use Rattle.table.specs.Results.{answer, resultOf, result};
 ghost use Rattle.table.specs.Tables.{columns};
 ghost use Rattle.newick.specs.Results.{answer as printAnswer, printed};
-ghost use Rattle.cases.specs.Cases.{Case, passes, isPlan, isText, Fills, sameList, widest, three};
+ghost use Rattle.cases.specs.Cases.{Case, passes, isPlan, isText, Fills, widest, three};
 use charges::Charged;
 use newick::Printed;
 use table::Planned;
 use table::Refusal;
+
+// The figures file: case 9 and its neighbours.
+mod files;
 
 // The limit of the cases that are not about it: the highest, 2^60.
 const LIMIT: u64 = 1152921504606846976;
@@ -28,6 +32,17 @@ fn main() {
     case_6();
     case_7();
     case_8();
+    files::case_9();
+    files::first_lines();
+    files::comments();
+    files::shapes_of_size_lines();
+    files::size_lines();
+    files::shapes_of_entry_lines();
+    files::entry_lines();
+    files::ends();
+    files::figures_read();
+    files::no_figures();
+    files::long_number();
 }
 
 // One relation, at limit 0: its plan is itself.

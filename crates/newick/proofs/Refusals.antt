@@ -10,14 +10,13 @@ use lib.Dec.{ltb}
 use lib.ListN.{length, getD}
 use borrow.Author.Tests.{eqb-false, eq-eqb, ne-eqb, ltb-false}
 use Rattle.numbers.proofs.Tests.{neither, is-false}
-use Rattle.relations.specs.Sets.{MOST, allOf, first}
-use Rattle.relations.proofs.Named.{all-is, all-none, all-some}
-use Rattle.table.specs.Requests.{isRelation}
+use Rattle.relations.specs.Sets.{MOST, allOf, first, isRelation}
+use Rattle.relations.proofs.Named.{all-is, all-none, all-some, is-relation}
 use Rattle.table.specs.Results.{inOrder}
 use Rattle.table.specs.Rule.{NONE}
 use Rattle.table.specs.Trees.{Over, planOf}
 use Rattle.table.proofs.Reasoning.{by-test}
-use Rattle.table.proofs.Refusals.{first-zero, passed-true, passed-false, is-relation}
+use Rattle.table.proofs.Refusals.{first-zero, passed-true, passed-false}
 use Rattle.newick.specs.Texts.{text, wholeText, needed}
 use Rattle.newick.specs.Walks.{meetsFault}
 use Rattle.newick.specs.Results.{shortColumn, unprinted, numberOf, unwritten, written, printed}

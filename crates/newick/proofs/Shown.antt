@@ -6,7 +6,7 @@ use mathlib.Core.Path.{_≡_, sym, ap, _∙_}
 use lib.ListN.{length, drop}
 use borrow.Author.Tests.{lt-ltb, le-ltb}
 use Rattle.relations.specs.Sets.{MOST, allOf}
-use Rattle.relations.proofs.Named.{all-some}
+use Rattle.relations.proofs.Named.{all-some, relation-is}
 use Rattle.table.specs.Demands.{Optimal, HoldsFill, changed}
 use Rattle.table.specs.Requests.{Request, fill, change, touches}
 use Rattle.table.specs.Results.{Call, Result, refusal, jobOf, mended, worked, result}
@@ -16,7 +16,7 @@ use Rattle.table.specs.Trees.{Tree, planOf}
 use Rattle.table.proofs.Demand2.{optimal}
 use Rattle.table.proofs.Demand3.{fit-changed, fill-accepted, demand-3}
 use Rattle.table.proofs.Mending.{mend-room}
-use Rattle.table.proofs.Refusals.{relation-is, accepted, result-done}
+use Rattle.table.proofs.Refusals.{accepted, result-done}
 use Rattle.newick.specs.Results.{shortColumn, unwritten, written, printed, Result as Print}
 use Rattle.newick.specs.Shows.{ShowsPlan}
 use Rattle.newick.specs.Texts.{wholeText, needed}

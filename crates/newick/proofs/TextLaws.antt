@@ -8,13 +8,12 @@ use mathlib.Core.Path.{_≡_, refl, sym, ap, ap₂, _∙_, subst}
 use lib.Dec.{leb, eqb}
 use lib.ListN.{length, length-append}
 use borrow.Author.Tests.{eq-eqb, ne-eqb, leb-true, leb-false}
-use Rattle.numbers.specs.Texts.{bytes, digits, decimal}
-use Rattle.numbers.proofs.Decimal.{isDigit, NoDigit, FirstDigit, decimal-tells, decimal-digit, decimal-short, decimal-long}
-use Rattle.relations.proofs.Named.{mem-all}
+use Rattle.relations.specs.Sets.{isRelation}
+use Rattle.numbers.specs.Texts.{bytes, digits, decimal, isDigit}
+use Rattle.numbers.proofs.Decimal.{NoDigit, FirstDigit, decimal-tells, decimal-digit, decimal-short, decimal-long}
+use Rattle.relations.proofs.Named.{mem-all, is-relation, relation-is}
 use Rattle.table.specs.Trees.{Tree, leaf, join, times, Over}
-use Rattle.table.specs.Requests.{isRelation}
 use Rattle.table.proofs.Reasoning.{by-test}
-use Rattle.table.proofs.Refusals.{is-relation, relation-is}
 use Rattle.table.proofs.TreeLaws.{once}
 use Rattle.newick.specs.Texts.{text, wholeText, digitsTo, needed}
 

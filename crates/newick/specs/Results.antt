@@ -6,8 +6,7 @@ use mathlib.Core.Path.{_≡_, refl}
 use lib.Dec.{eqb, ltb}
 use lib.ListN.{length, getD, drop, replicate}
 use Rattle.numbers.specs.Texts.{bytes, digits, decimal}
-use Rattle.relations.specs.Sets.{MOST, weight, mem, those, without, inside, allOf, first, lowestTo, lowest, rest, larger}
-use Rattle.table.specs.Requests.{isRelation}
+use Rattle.relations.specs.Sets.{MOST, weight, mem, those, without, inside, allOf, first, lowestTo, lowest, rest, larger, isRelation}
 use Rattle.table.specs.Results.{inOrder}
 use Rattle.table.specs.Rule.{NONE}
 use Rattle.table.specs.Trees.{planIn, planOf}

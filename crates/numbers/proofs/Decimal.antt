@@ -2,25 +2,16 @@
 use Prim.Native.Nat.{ℕ, zero, suc, _+_, _-_, _*_, _/_, _%_, _≤_, _<_}
 use native.Mathlib.Nat.{div-eq-of-lt, mod-eq-of-lt}
 use native.Mathlib.Omega.{arith}
-use mathlib.Core.Bool.{Bool, true, false, cond, _&&_}
+use mathlib.Core.Bool.{true, false, cond}
 use mathlib.Core.List.{List, [], _∷_, _++_}
 use mathlib.Core.Path.{_≡_, refl, sym, ap, _∙_}
 use lib.Dec.{leb}
 use lib.Seq.{append-snoc}
 use borrow.Author.Tests.{le-leb}
-use Rattle.numbers.specs.Texts.{digit, digits, decimal}
+use Rattle.numbers.specs.Texts.{digit, digits, decimal, isDigit, value}
 use Rattle.numbers.proofs.Tests.{both}
 
 -- ---- reading
-
--- The byte is that of a digit.
-unfoldable pub isDigit : ℕ → Bool
-isDigit c = leb 48 c && leb c 57
-
--- The number that the leading digits say, after digits that say a.
-unfoldable pub value : ℕ → List ℕ → ℕ
-value a [] = a
-value a (c ∷ cs) = cond (isDigit c) (value (10 * a + (c - 48)) cs) a
 
 -- What follows the leading digits.
 unfoldable pub after : List ℕ → List ℕ
@@ -49,7 +40,7 @@ after-end [] h = refl
 after-end (c ∷ cs) h = rw h
 
 -- The byte of a digit is one, and it is read.
-digit-is : (d : ℕ) → d < 10 → isDigit (digit d) ≡ true
+pub digit-is : (d : ℕ) → d < 10 → isDigit (digit d) ≡ true
 unfolding isDigit
 digit-is d h = both (leb 48 (digit d)) (leb (digit d) 57) (le-leb 48 (digit d) (omega arith)) (le-leb (digit d) 57 (omega arith))
 
@@ -149,7 +140,7 @@ decimal-some zero h = absurd (omega arith)
 decimal-some (suc k) h = refl
 
 -- A number from 10 on is the number without its last digit, and that digit.
-decimal-step : (k : ℕ) → 10 ≤ k → decimal k ≡ decimal (k / 10) ++ (digit (k % 10) ∷ [])
+pub decimal-step : (k : ℕ) → 10 ≤ k → decimal k ≡ decimal (k / 10) ++ (digit (k % 10) ∷ [])
 unfolding digits
 decimal-step zero h = absurd (omega arith)
 decimal-step (suc k) h =

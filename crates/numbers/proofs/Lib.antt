@@ -2,4 +2,5 @@
 pub mod Products
 pub mod Tests
 pub mod Decimal
+pub mod Lists
 mod Determined

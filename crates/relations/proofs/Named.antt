@@ -1,4 +1,4 @@
--- The named values: what `Set::one` and `Set::all` give, and what it holds. (Of a relation alone see `mem-weight` and `mem-alone`.)
+-- What is a relation; and the named values, what `Set::one` and `Set::all` give, and what it holds. (Of a relation alone see `mem-weight` and `mem-alone`.)
 use Prim.Native.Nat.{ℕ, zero, suc, _-_, _^_, _≤_, _<_}
 use native.Mathlib.Omega.{arith}
 use mathlib.Core.Bool.{true, _&&_}
@@ -8,9 +8,18 @@ use lib.Dec.{leb}
 use lib.Pow.{ones-lt, pow-pos, pow-lt}
 use borrow.Author.Tests.{le-leb, lt-leb, leb-true}
 use Rattle.numbers.proofs.Tests.{both, first-true, second-true, same-test}
-use Rattle.relations.specs.Sets.{MOST, weight, mem, those, oneOf, allOf}
+use Rattle.relations.specs.Sets.{MOST, isRelation, weight, mem, those, oneOf, allOf}
 use Rattle.relations.proofs.Members.{mem-pos, mem-most}
 use Rattle.relations.proofs.Parts.{those-has}
+
+-- To be numbered 1 to n.
+pub is-relation : (n k : ℕ) → isRelation n k ≡ true → (1 ≤ k) × (k ≤ n)
+unfolding isRelation
+is-relation n k e = (leb-true 1 k (first-true (leb 1 k) (leb k n) e), leb-true k n (second-true (leb 1 k) (leb k n) e))
+
+pub relation-is : (n k : ℕ) → 1 ≤ k → k ≤ n → isRelation n k ≡ true
+unfolding isRelation
+relation-is n k h l = both (leb 1 k) (leb k n) (le-leb 1 k h) (le-leb k n l)
 
 pub one-is : (k : ℕ) → 1 ≤ k → k ≤ MOST → oneOf k ≡ 2 ^ (k - 1)
 unfolding oneOf weight

@@ -8,6 +8,10 @@ use lib.Dec.{eqb, leb}
 abbrev pub MOST : ℕ
 MOST = 15
 
+-- "Numbered 1 to n": k is one of n relations.
+unfoldable pub isRelation : ℕ → ℕ → Bool
+isRelation n k = leb 1 k && leb k n
+
 -- "Relation k has the weight 2^(k-1)." There is no relation 0: it weighs nothing.
 unfoldable pub weight : ℕ → ℕ
 weight zero = 0

@@ -5,6 +5,7 @@ use mathlib.Core.Path.{_≡_, refl, sym, ap₂, _∙_, subst}
 use mathlib.Core.Bool.{Bool, true, false, and-true}
 use lib.ListN.{length}
 use borrow.Author.Tests.{le-leb}
+use Rattle.relations.proofs.Named.{is-relation}
 use Rattle.relations.specs.Sets.{MOST, EMPTY, mem, oneOf, allOf, inside}
 use Rattle.relations.specs.Pairs.{place}
 use Rattle.relations.proofs.Places.{place-below}
@@ -18,7 +19,7 @@ use Rattle.table.specs.Demands.{Demand2, Demand3, Keeps, Optimal}
 use Rattle.table.specs.Inner.{holding}
 use Rattle.table.specs.declared.rows.Row.{Row}
 use Rattle.table.proofs.Mending.{mend-room}
-use Rattle.table.proofs.Refusals.{first-past, first-found, Accepted, fit, is-accepted, result-done, result-refused, is-relation, is-pair}
+use Rattle.table.proofs.Refusals.{first-past, first-found, Accepted, fit, is-accepted, result-done, result-refused, is-pair}
 use Rattle.table.proofs.Demand2.{optimal}
 use Rattle.table.proofs.Demand3.{demand-3, keeps}
 

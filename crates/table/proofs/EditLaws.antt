@@ -8,6 +8,7 @@ use mathlib.Core.Bool.{Bool, true, false, _&&_, cond, true≢false, and-eq-true-
 use lib.Dec.{leb}
 use lib.ListN.{length, length-set}
 use lib.Seq.{getD-set-other}
+use Rattle.relations.proofs.Named.{is-relation}
 use Rattle.relations.specs.Pairs.{place}
 use Rattle.relations.specs.Sets.{mem, Part, inside, lowest, rest, larger}
 use Rattle.relations.proofs.Members.{mem-pos}
@@ -22,7 +23,7 @@ use Rattle.table.specs.Requests.{Request, fill, editCount, editPair, cha
 use Rattle.table.proofs.Best.{best-ext}
 use Rattle.table.proofs.Mending.{mend-fresh}
 use Rattle.table.proofs.Rules.{larger-rest, rowBy, rule-local}
-use Rattle.table.proofs.Refusals.{IsPair, is-relation, is-pair}
+use Rattle.table.proofs.Refusals.{IsPair, is-pair}
 
 -- ---- what the size rule reads
 

@@ -13,12 +13,13 @@ use lib.ListN.{length, getD, List·getD-eq-default}
 use borrow.Author.Tests.{eqb-true, eqb-false, eq-eqb, ne-eqb, leb-true, le-leb, lt-leb, ltb-false, lt-ltb, le-ltb, not-true}
 use Rattle.numbers.proofs.Tests.{neither}
 use Rattle.relations.specs.Pairs.{place}
-use Rattle.relations.specs.Sets.{MOST, first}
+use Rattle.relations.specs.Sets.{MOST, first, isRelation}
+use Rattle.relations.proofs.Named.{is-relation, relation-is}
 use Rattle.relations.proofs.Places.{before-all}
 use Rattle.charges.specs.Charges.{priced}
 use Rattle.table.specs.Figures.{Figures}
 use Rattle.table.specs.Tables.{Table, Room}
-use Rattle.table.specs.Requests.{Request, newDivisor, isRelation, names, editPair, isPair}
+use Rattle.table.specs.Requests.{Request, newDivisor, names, editPair, isPair}
 use Rattle.table.specs.declared.Refusal.{Refusal}
 use Rattle.table.specs.declared.Refusal.the-variants.{Relations, Lengths, ZeroDivisor, UnknownModel, HighLimit, ShortColumn, NoPlan, Name}
 use Rattle.table.proofs.Reasoning.{by-test}
@@ -60,15 +61,6 @@ passed-false k true e = absurd (omega arith)
 passed-false k false e = refl
 
 -- ---- the single tests
-
--- To name a relation is to be one of 1 to n.
-pub is-relation : (n k : ℕ) → isRelation n k ≡ true → (1 ≤ k) × (k ≤ n)
-unfolding isRelation
-is-relation n k e = let b = and-eq-true-iff (leb 1 k) (leb k n) .0 e in (leb-true 1 k (b .0), leb-true k n (b .1))
-
-pub relation-is : (n k : ℕ) → 1 ≤ k → k ≤ n → isRelation n k ≡ true
-unfolding isRelation
-relation-is n k h l = rw (le-leb 1 k h, le-leb k n l)
 
 zero-none : (ds : List ℕ) → anyZero ds ≡ false → (k : ℕ) → 1 ≤ getD ds k 1
 unfolding anyZero

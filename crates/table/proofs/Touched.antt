@@ -5,12 +5,13 @@ use native.Mathlib.Decide.{le-ind, decLt}
 use native.Mathlib.Omega.{arith}
 use mathlib.Core.Path.{_≡_, refl, sym, ap, ap₂, _∙_}
 use mathlib.Core.Bool.{Bool, true, false, _&&_, _||_, cond, and-comm, and-false, and-true}
+use Rattle.relations.proofs.Named.{is-relation}
 use Rattle.numbers.proofs.Tests.{is-false}
-use Rattle.relations.specs.Sets.{weight, mem, Apart}
+use Rattle.relations.specs.Sets.{weight, mem, Apart, isRelation}
 use Rattle.relations.proofs.Members.{mem-most, mem-weight, mem-alone}
 use Rattle.relations.proofs.Parts.{mem-sum, apart-part}
-use Rattle.table.specs.Requests.{editCount, editPair, touches, isRelation, names}
-use Rattle.table.proofs.Refusals.{is-relation, IsPair, is-pair}
+use Rattle.table.specs.Requests.{editCount, editPair, touches, names}
+use Rattle.table.proofs.Refusals.{IsPair, is-pair}
 
 -- How many numbers below k pass a test.
 unfoldable pub countTo : (ℕ → Bool) → ℕ → ℕ

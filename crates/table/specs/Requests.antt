@@ -4,9 +4,9 @@ use mathlib.Core.Bool.{Bool, true, false, not, _&&_}
 use mathlib.Core.List.{[], _∷_}
 use mathlib.Core.Path.{_≡_, refl}
 use lib.ListN.{set}
-use lib.Dec.{eqb, leb}
+use lib.Dec.{eqb}
 use Rattle.relations.specs.Pairs.{place, before}
-use Rattle.relations.specs.Sets.{mem}
+use Rattle.relations.specs.Sets.{mem, isRelation}
 use Rattle.table.specs.Figures.{Figures, figures}
 
 pub data Request : Type 0 where
@@ -34,10 +34,7 @@ newDivisor fill = 1
 newDivisor (editCount k c) = 1
 newDivisor (editPair i j d) = d
 
--- A relation, 1 to n; two relations that are not the same; and whether an edit names such.
-unfoldable pub isRelation : ℕ → ℕ → Bool
-isRelation n k = leb 1 k && leb k n
-
+-- Two relations that are not the same; and whether an edit names a relation, or two such.
 unfoldable pub isPair : ℕ → ℕ → ℕ → Bool
 isPair n i j = isRelation n i && isRelation n j && not (eqb i j)
 

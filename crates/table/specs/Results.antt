@@ -5,12 +5,12 @@ use mathlib.Core.Bool.{Bool, false, _||_, cond}
 use mathlib.Core.List.{List, [], _∷_}
 use lib.ListN.{length, replicate}
 use lib.Dec.{eqb, leb, ltb}
-use Rattle.relations.specs.Sets.{MOST, weight, mem, allOf, first, lowestTo, lowest, rest, larger}
+use Rattle.relations.specs.Sets.{MOST, weight, mem, allOf, first, lowestTo, lowest, rest, larger, isRelation}
 use Rattle.charges.specs.Charges.{priced}
 use Rattle.table.specs.Figures.{Figures, figures, count, sizeRule}
 use Rattle.table.specs.Tables.{Table, columns, rowAt, writeRow, mendRow, mendTo}
 use Rattle.table.specs.Rule.{NONE, Job, jobFor, splitOf, rowWith, rowOf}
-use Rattle.table.specs.Requests.{Request, fill, editCount, editPair, change, touches, newDivisor, isRelation, isPair, names}
+use Rattle.table.specs.Requests.{Request, fill, editCount, editPair, change, touches, newDivisor, isPair, names}
 use Rattle.table.specs.declared.rows.Row.{Row}
 use Rattle.table.specs.declared.Planned.{Planned}
 use Rattle.table.specs.declared.Planned.the-variants.{Plan, Refused}

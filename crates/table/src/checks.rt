@@ -7,10 +7,10 @@ use charges::Charged;
 use relations::MOST;
 use relations::Set;
 use relations::pairs;
-ghost use Rattle.relations.specs.Sets.{MOST};
+ghost use Rattle.relations.specs.Sets.{MOST, isRelation};
 ghost use Rattle.table.specs.Figures.{figures};
 ghost use Rattle.table.specs.Tables.{columns};
-ghost use Rattle.table.specs.Requests.{isRelation, isPair};
+ghost use Rattle.table.specs.Requests.{isPair};
 ghost use Rattle.table.specs.Results.{called, anyZero, short, badFigures, unfit};
 ghost use Rattle.table.specs.Inner.{found};
 

@@ -7,8 +7,8 @@ use borrow.Author.Needs.{needs}
 use borrow.Author.Tests.{eq-eqb, ne-eqb}
 use lib.Dec.{eqb}
 use lib.ListN.{length, getD}
-use Rattle.cases.specs.Cases.{sameList}
-use Rattle.cases.proofs.Lists.{sameFrom, other-length, at-place, at-end}
+use Rattle.numbers.proofs.Lists.{sameFrom, other-length, at-place, at-end}
+use Rattle.numbers.specs.Texts.{sameList}
 use Rattle.cases.proofs.are_sizes.Statement.{statement}
 use Rattle.cases.proofs.are_sizes.Tie as tie
 

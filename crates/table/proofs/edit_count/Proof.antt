@@ -3,10 +3,11 @@ use native.Mathlib.Omega.{arith}
 use borrow.Author.Needs.{needs}
 use borrow.Author.Tests.{not-true, not-false}
 use mathlib.Core.Path.{refl, sym, ap, _∙_}
+use Rattle.relations.proofs.Named.{is-relation}
 use Rattle.table.specs.Requests.{Request, editCount, change, newDivisor, names}
 use Rattle.table.specs.Results.{Call, called}
 use Rattle.table.specs.Inner.{found}
-use Rattle.table.proofs.Refusals.{Accepted, number-pos, is-relation}
+use Rattle.table.proofs.Refusals.{Accepted, number-pos}
 use Rattle.table.proofs.Demand3.{fit-changed}
 use Rattle.table.proofs.Calls.{check-refuses, name-refuses, accepts, count-holding, work-done, mended-room, edit-clauses}
 use Rattle.table.proofs.edit_count.Statement.{statement}

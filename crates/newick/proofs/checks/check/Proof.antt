@@ -8,12 +8,11 @@ use lib.Dec.{eqb, ltb}
 use lib.ListN.{getD}
 use borrow.Author.Needs.{needs}
 use borrow.Author.Tests.{eq-eqb, ne-eqb, lt-ltb, le-ltb, le-leb, lt-leb}
-use Rattle.relations.specs.Sets.{MOST, first}
-use Rattle.relations.proofs.Named.{all-is}
-use Rattle.table.specs.Requests.{isRelation}
+use Rattle.relations.specs.Sets.{MOST, first, isRelation}
+use Rattle.relations.proofs.Named.{all-is, relation-is}
 use Rattle.table.specs.Results.{inOrder}
 use Rattle.table.specs.Rule.{NONE}
-use Rattle.table.proofs.Refusals.{relation-is, edge}
+use Rattle.table.proofs.Refusals.{edge}
 use Rattle.newick.specs.Texts.{needed}
 use Rattle.newick.specs.Results.{shortColumn, unprinted}
 use Rattle.newick.proofs.Refusals.{none-allowed, some-allowed}

@@ -4,10 +4,11 @@ use borrow.Author.Tests.{eq-eqb, ne-eqb, not-true, not-false}
 use mathlib.Core.Bool.{_||_, cond}
 use mathlib.Core.Path.{_≡_, sym, _∙_}
 use lib.Dec.{eqb}
+use Rattle.relations.proofs.Named.{is-relation}
 use Rattle.relations.specs.Sets.{first}
 use Rattle.table.specs.Figures.{figures}
 use Rattle.table.specs.Results.{anyZero, badFigures, inOrder}
-use Rattle.table.proofs.Refusals.{pairs-end, only-divisors, is-relation}
+use Rattle.table.proofs.Refusals.{pairs-end, only-divisors}
 use Rattle.table.proofs.checks.check_figures.Statement.{statement}
 use Rattle.table.proofs.checks.check_figures.Tie as tie
 

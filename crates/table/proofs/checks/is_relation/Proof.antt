@@ -1,7 +1,7 @@
 -- A relation is numbered 1 to n.
 use native.Mathlib.Omega.{arith}
 use borrow.Author.Tests.{le-leb, lt-leb}
-use Rattle.table.specs.Requests.{isRelation}
+use Rattle.relations.specs.Sets.{isRelation}
 use Rattle.table.proofs.checks.is_relation.Statement.{statement}
 use Rattle.table.proofs.checks.is_relation.Tie as tie
 

@@ -1,0 +1,21 @@
+-- Each answer is what the judge computes to.
+use mathlib.Core.Path.{refl}
+use lib.Dec.{lit≤}
+use denote.Floats.{is-true}
+use Rattle.cases.specs.Files.{answersTo}
+use Rattle.cases.proofs.files.ends.Statement.{statement}
+use Rattle.cases.proofs.files.ends.Tie as tie
+
+pub ends-spec : {M : Type 1} → statement M
+unfolding answersTo
+ends-spec =
+    tie.close
+    (tie.spec
+    (λ _. refl) (λ _ _. (lit≤ tt, is-true _ tt))
+    (λ _. refl) (λ _ _. (lit≤ tt, is-true _ tt))
+    (λ _. refl) (λ _ _. (lit≤ tt, is-true _ tt))
+    (λ _. refl) (λ _ _. (lit≤ tt, is-true _ tt))
+    (λ _. refl) (λ _ _. (lit≤ tt, is-true _ tt))
+    (λ _. refl) (λ _ _. (lit≤ tt, is-true _ tt))
+    (λ _. refl) (λ _ _. (lit≤ tt, is-true _ tt))
+    (λ _. tt))
