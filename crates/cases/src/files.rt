@@ -4,11 +4,10 @@ ghost use mathlib.Core.Bool.{true};
 ghost use mathlib.Core.Path.{_≡_};
 ghost use Prim.Native.Nat.{_≤_};
 ghost use lib.ListN.{length};
-ghost use Rattle.figures.specs.Judge.{numberOf, resultOf};
+ghost use Rattle.figures.specs.Judge.{resultOf};
 ghost use Rattle.cases.specs.Files.{isAnswer, afterLine1, answersTo, readsAs};
 use figures::Answer;
 use figures::Reading;
-use figures::Refusal;
 
 pub fn case_9() {
     after_line_1(b"2 2 1\n1 1 10\n", 12, 64);
@@ -211,21 +210,5 @@ fn is_answer(found: Reading, number: u32, place: usize) -> bool
     let Answer::Refused(why, at) = answer else {
         return number == 0 && place == 0;
     };
-    number_of(why) == number && at == place
-}
-
-// A refusal's number in document 01.
-fn number_of(why: Refusal) -> u32
-    ensures { λ x. ⌜ x ≡ numberOf why ⌝ }
-{
-    match why {
-        Refusal::Relations => 1,
-        Refusal::Unequal => 2,
-        Refusal::ZeroDivisor => 3,
-        Refusal::Shape => 11,
-        Refusal::NoCount => 12,
-        Refusal::Twice => 13,
-        Refusal::Outside => 14,
-        Refusal::TooLarge => 15,
-    }
+    figures::number_of(why) == number && at == place
 }

@@ -1,4 +1,4 @@
-// Document 01's cases through the real functions. The same cases pass by the definitions as one statement, proofs/Passed.antt.
+// Document 01's cases through the real functions. Cases 1 to 8 pass by the definitions as one statement, proofs/Passed.antt.
 // Before a fill each column holds 9 throughout, and none of it is left after; so does the room for a text before it is printed, where 9 is
 // a tab.
 ghost use mathlib.Core.Bool.{true};
@@ -13,6 +13,7 @@ ghost use Rattle.table.specs.Tables.{columns};
 ghost use Rattle.newick.specs.Results.{answer as printAnswer, printed};
 ghost use Rattle.cases.specs.Cases.{Case, passes, isPlan, isText, Fills, widest, three};
 use charges::Charged;
+use libc::STDOUT_FILENO;
 use newick::Printed;
 use table::Planned;
 use table::Refusal;
@@ -33,6 +34,7 @@ fn main() {
     case_7();
     case_8();
     files::case_9();
+    case_10();
     files::first_lines();
     files::comments();
     files::shapes_of_size_lines();
@@ -189,6 +191,16 @@ fn case_8() {
     check::expect(check::same(&short, b"\t\t\t\t\t\t\t\t\t"));
     let mut long: [u8; 10] = [9; 10];
     check::expect(is_printed(3, &costs, &lefts, &mut long, b"((1,2),3);"));
+}
+
+// The program's output for this input, printed: the gate holds it to the file `stdout`.
+fn case_10() {
+    let output = planner::reports::report(
+        b"%%MatrixMarket matrix coordinate integer symmetric\n4 4 4\n1 1 10\n2 2 20\n3 3 30\n4 4 40\n",
+    );
+    let bytes = output.bytes;
+    let length = output.length;
+    io::write_all(STDOUT_FILENO, &bytes[..length]);
 }
 
 // Whether the answer is a plan of this cost and this size.

@@ -1,5 +1,5 @@
 -- The public contract determines its answer: number, place and figures tell it.
-use Prim.Native.Nat.{ℕ, _<_}
+use Prim.Native.Nat.{ℕ}
 use native.Mathlib.Omega.{arith}
 use mathlib.Core.List.{[], _∷_}
 use mathlib.Core.Path.{_≡_, refl, sym, ap, ap₂, _∙_}
@@ -12,7 +12,9 @@ use Rattle.figures.specs.declared.Figures.{Figures}
 use Rattle.figures.specs.declared.Reading.{Reading}
 use Rattle.figures.specs.declared.Refusal.{Refusal}
 use Rattle.figures.specs.declared.Refusal.the-variants.{Relations, Unequal, ZeroDivisor, Shape, NoCount, Twice, Outside, TooLarge}
+use Rattle.figures.proofs.Accepted.{number-pos}
 use Rattle.figures.proofs.read.Reads as Read
+use Rattle.figures.proofs.number_of.Reads as NumberOf
 
 -- A refusal is known by its number.
 refusalOf : ℕ → Refusal
@@ -32,16 +34,6 @@ refusal-of Twice = refl
 refusal-of Outside = refl
 refusal-of TooLarge = refl
 
-number-pos : (why : Refusal) → 0 < numberOf why
-number-pos Relations = omega arith
-number-pos Unequal = omega arith
-number-pos ZeroDivisor = omega arith
-number-pos Shape = omega arith
-number-pos NoCount = omega arith
-number-pos Twice = omega arith
-number-pos Outside = omega arith
-number-pos TooLarge = omega arith
-
 -- Number and place tell the answers apart.
 answer-tells : (a b : Answer) → numberGiven a ≡ numberGiven b → placeGiven a ≡ placeGiven b → a ≡ b
 answer-tells Accepted Accepted e d = refl
@@ -58,3 +50,6 @@ read-determined k a x r q p s =
   where
     made : Answer → Figures → Reading
     made a f = record { answer = a; figures = f }
+
+number-of-determined : Determined NumberOf.Post
+number-of-determined k a x r q p s = p ∙ sym s

@@ -24,7 +24,7 @@ use Rattle.figures.proofs.Cutting.{line-there}
 -- ---- accepted results
 
 -- A fault is none where the result is accepted.
-no-fault : (k at : ℕ) (fault : Bool) (r : Result) → eqb k 0 ≡ false → faulty k at fault r .number ≡ 0 → (fault ≡ false) × (r .number ≡ 0)
+pub no-fault : (k at : ℕ) (fault : Bool) (r : Result) → eqb k 0 ≡ false → faulty k at fault r .number ≡ 0 → (fault ≡ false) × (r .number ≡ 0)
 no-fault k at true r h e = absurd (true≢false (sym (ap (λ (x : ℕ). eqb x 0) e) ∙ h))
 no-fault k at false r h e = (refl, e)
 
@@ -67,25 +67,25 @@ entry-kept n at at' es fs x f g h kept =
     (kept (entry i j v)))))
 
 -- The numbers say the entry e, which may follow the entries `es`.
-record Says (n : ℕ) (es : List Entry) (x : Numbers) (e : Entry) : Type 0 where
-  numbers : x ≡ three (e .row) (e .column) (e .value)
-  small : tooLarge (e .row) (e .column) (e .value) ≡ false
-  inside : inTriangle n (e .row) (e .column) ≡ true
-  new : given (e .row) (e .column) es ≡ false
-  divides : zeroDivisor e ≡ false
+pub record Says (n : ℕ) (es : List Entry) (x : Numbers) (e : Entry) : Type 0 where
+  pub numbers : x ≡ three (e .row) (e .column) (e .value)
+  pub small : tooLarge (e .row) (e .column) (e .value) ≡ false
+  pub inside : inTriangle n (e .row) (e .column) ≡ true
+  pub new : given (e .row) (e .column) es ≡ false
+  pub divides : zeroDivisor e ≡ false
 
 -- Then the judge goes on with that entry,
-says-next : (n : ℕ) (es : List Entry) (at : ℕ) (x : Numbers) (next : Entry → Result) (e : Entry) → Says n es x e → onEntry n es at x next ≡ next e
+pub says-next : (n : ℕ) (es : List Entry) (at : ℕ) (x : Numbers) (next : Entry → Result) (e : Entry) → Says n es x e → onEntry n es at x next ≡ next e
 unfolding withNumbers
 says-next n es at x next e s = rw (s .numbers, s .small, s .inside, s .new, s .divides)
 
 -- and they say one where the judge accepts.
-record Said (n : ℕ) (es : List Entry) (x : Numbers) (next : Entry → Result) : Type 0 where
-  it : Entry
-  says : Says n es x it
-  goes : next it .number ≡ 0
+pub record Said (n : ℕ) (es : List Entry) (x : Numbers) (next : Entry → Result) : Type 0 where
+  pub it : Entry
+  pub says : Says n es x it
+  pub goes : next it .number ≡ 0
 
-said : (n : ℕ) (es : List Entry) (at : ℕ) (x : Numbers) (next : Entry → Result) → onEntry n es at x next .number ≡ 0 → Said n es x next
+pub said : (n : ℕ) (es : List Entry) (at : ℕ) (x : Numbers) (next : Entry → Result) → onEntry n es at x next .number ≡ 0 → Said n es x next
 unfolding withNumbers
 said n es at none next h = absurd (omega arith)
 said n es at (three i j v) next h =

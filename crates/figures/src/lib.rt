@@ -2,7 +2,7 @@
 ghost use mathlib.Core.Path.{_≡_};
 use crate::lines::Heading;
 use crate::lines::Line;
-ghost use Rattle.figures.specs.Judge.{resultOf, judged};
+ghost use Rattle.figures.specs.Judge.{numberOf, resultOf, judged};
 
 // The entry lines, and the figures that they say.
 mod entries;
@@ -48,6 +48,22 @@ pub struct Figures {
 pub struct Reading {
     pub answer: Answer,
     pub figures: Figures,
+}
+
+// A refusal's number in document 01.
+pub fn number_of(why: Refusal) -> u32
+    ensures { λ x. ⌜ x ≡ numberOf why ⌝ }
+{
+    match why {
+        Refusal::Relations => 1,
+        Refusal::Unequal => 2,
+        Refusal::ZeroDivisor => 3,
+        Refusal::Shape => 11,
+        Refusal::NoCount => 12,
+        Refusal::Twice => 13,
+        Refusal::Outside => 14,
+        Refusal::TooLarge => 15,
+    }
 }
 
 // The figures that a text says. No text is too long or too damaged: it is judged from the top, line by line, up to the first fault.

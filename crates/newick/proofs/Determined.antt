@@ -5,7 +5,7 @@ use mathlib.Core.List.{[], _∷_}
 use mathlib.Core.Path.{_≡_, refl, sym, ap, _∙_}
 use lib.ListN.{getD}
 use denote.Ref.{now}
-use Rattle.numbers.specs.Determined.{DeterminedWith}
+use Rattle.numbers.specs.Determined.{Determined, DeterminedWith}
 use Rattle.newick.specs.Results.{Answer, numberOf, answer, Result}
 use Rattle.newick.specs.declared.Printed.{Printed}
 use Rattle.newick.specs.declared.Printed.the-variants.{Text, Refused}
@@ -13,6 +13,7 @@ use Rattle.newick.specs.declared.Refusal.{Refusal}
 use Rattle.newick.specs.declared.Refusal.the-variants.{Relations, ShortColumn, NoPlan, ShortText, NoTree}
 use Rattle.newick.proofs.Refusals.{number-pos}
 use Rattle.newick.proofs.print.Reads as Print
+use Rattle.newick.proofs.number_of.Reads as NumberOf
 
 -- A refusal is known by its number.
 refusalOf : ℕ → Refusal
@@ -39,3 +40,6 @@ print-determined : DeterminedWith Print.Post (λ x. now (x .1 .1 .1 .0))
 print-determined k a x y r q p s =
     let e = p ∙ sym s in
     (answer-tells r q (ap (λ (z : Result). z .answer) e), ap (λ (z : Result). z .room) e)
+
+number-of-determined : Determined NumberOf.Post
+number-of-determined k a x r q p s = p ∙ sym s

@@ -58,7 +58,7 @@ optimal-holds c r some few room o z =
     }
 
 -- An accepted fill keeps the columns' lengths.
-filled-room : (c : Call) → refusal fill c ≡ 0 → Room (mended fill c) (2 ^ c .n)
+pub filled-room : (c : Call) → refusal fill c ≡ 0 → Room (mended fill c) (2 ^ c .n)
 unfolding mended change
 filled-room c e = mend-room (rowOf (jobOf c) (c .figures)) (touches fill) (2 ^ c .n) (c .table) (accepted fill c e .fit .room)
 

@@ -1,22 +1,16 @@
 -- Bytes written in turn.
-use Prim.Native.Nat.{ℕ, suc, _+_, _≤_}
-use native.Mathlib.Nat.{add-zero, zero-add}
+use Prim.Native.Nat.{ℕ, _+_, _≤_}
+use native.Mathlib.Nat.{zero-add}
 use native.Mathlib.Numerals.{add-one}
 use native.Mathlib.Omega.{arith}
 use mathlib.Core.List.{List, [], _∷_, _++_}
 use mathlib.Core.Path.{_≡_, sym, ap, ap₂, _∙_}
 use lib.ListN.{length, set, drop}
 use lib.Seq.{sets, sets-eq}
+use Rattle.numbers.proofs.Writing.{sets-append}
 use Rattle.table.specs.Trees.{Tree, join}
 use Rattle.newick.specs.Texts.{text, wholeText}
 use Rattle.newick.proofs.TextLaws.{text-join}
-
--- One text after another is the two as one.
-sets-append : (out : List ℕ) (at : ℕ) (xs ys : List ℕ) → sets (sets out at xs) (at + length xs) ys ≡ sets out at (xs ++ ys)
-sets-append out at [] ys = ap (λ (k : ℕ). sets out k ys) (add-zero at)
-sets-append out at (x ∷ xs) ys =
-    let e : at + suc (length xs) ≡ suc at + length xs = omega arith in
-    ap (λ (k : ℕ). sets (sets (set out at x) (suc at) xs) k ys) e ∙ sets-append (set out at x) (suc at) xs ys
 
 -- "(", the left tree up to the comma, ",", the right tree up to the bracket, ")": B is what stands after the left tree, and D after both.
 pub join-written : (out B D : List ℕ) (at comma close : ℕ) (l r : Tree)

@@ -2,7 +2,7 @@
 ghost use mathlib.Core.Path.{_≡_};
 use crate::checks::Checked;
 use relations::Set;
-ghost use Rattle.newick.specs.Results.{resultOf, printed};
+ghost use Rattle.newick.specs.Results.{numberOf, resultOf, printed};
 
 // What is checked before anything is written.
 mod checks;
@@ -29,6 +29,19 @@ pub enum Refusal {
 pub enum Printed {
     Text { length: usize },
     Refused(Refusal),
+}
+
+// A refusal's number in document 01.
+pub fn number_of(why: Refusal) -> u32
+    ensures { λ x. ⌜ x ≡ numberOf why ⌝ }
+{
+    match why {
+        Refusal::Relations => 1,
+        Refusal::ShortColumn => 6,
+        Refusal::NoPlan => 7,
+        Refusal::ShortText => 9,
+        Refusal::NoTree => 10,
+    }
 }
 
 // The tree that the left parts give for relations 1 to n, written at the start of `text` once the walk has found that they give one. 64

@@ -1,11 +1,10 @@
 // The text of a tree (document 01, "Printing the tree").
 ghost use mathlib.Core.Path.{_≡_};
-ghost use Prim.Native.Nat.{_+_, _<_, _≤_};
+ghost use Prim.Native.Nat.{_+_, _≤_};
 ghost use lib.ListN.{length};
 ghost use lib.Seq.{sets};
 use crate::walks;
 use relations::Set;
-ghost use Rattle.numbers.specs.Texts.{decimal};
 ghost use Rattle.relations.specs.Sets.{MOST};
 ghost use Rattle.table.specs.Trees.{planOf};
 ghost use Rattle.newick.specs.Texts.{text, needed};
@@ -32,7 +31,7 @@ pub fn put_tree(lefts: &[u16], set: Set, out: &mut [u8], at: usize) -> usize
     ensures { λ x. ⌜ now (out .exit) ≡ sets (now (out .entry)) at (text (planOf (now (lefts .entry)) (set .number))) ⌝ }
 {
     if !set.is_larger() {
-        return put_number(set.lowest(), out, at);
+        return numbers::put_decimal(numbers::wide(set.lowest()), out, at);
     }
     let left = walks::left_part(lefts, set);
     let right = set.minus(left);
@@ -42,28 +41,4 @@ pub fn put_tree(lefts: &[u16], set: Set, out: &mut [u8], at: usize) -> usize
     let close = put_tree(lefts, right, out, comma + 1);
     out[close] = b')';
     close + 1
-}
-
-// A relation's number written in decimal from place `at` on; the place after it.
-fn put_number(k: u32, out: &mut [u8], at: usize) -> usize
-    requires { ⌜ k < 100 ⌝ }
-    requires { ⌜ at + length (decimal k) ≤ length (now out) ⌝ }
-    ensures { λ x. ⌜ x ≡ at + length (decimal k) ⌝ }
-    ensures { λ x. ⌜ now (out .exit) ≡ sets (now (out .entry)) at (decimal k) ⌝ }
-{
-    if k < 10 {
-        out[at] = digit(k);
-        return at + 1;
-    }
-    out[at] = digit(k / 10);
-    out[at + 1] = digit(k % 10);
-    at + 2
-}
-
-// The byte of a digit.
-fn digit(d: u32) -> u8
-    requires { ⌜ d < 10 ⌝ }
-    ensures { λ x. ⌜ x ≡ 48 + d ⌝ }
-{
-    (48 + d) as u8
 }

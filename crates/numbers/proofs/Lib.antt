@@ -3,4 +3,5 @@ pub mod Products
 pub mod Tests
 pub mod Decimal
 pub mod Lists
+pub mod Writing
 mod Determined

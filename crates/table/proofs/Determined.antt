@@ -5,7 +5,7 @@ use mathlib.Core.List.{List, [], _∷_}
 use lib.ListN.{getD}
 use mathlib.Core.Path.{_≡_, refl, sym, ap, _∙_}
 use denote.Ref.{now}
-use Rattle.numbers.specs.Determined.{DeterminedWith}
+use Rattle.numbers.specs.Determined.{Determined, DeterminedWith}
 use Rattle.table.specs.Tables.{Table, columns}
 use Rattle.table.specs.Results.{numberOf, Answer, answer, Result}
 use Rattle.table.specs.declared.Planned.{Planned}
@@ -16,6 +16,7 @@ use Rattle.table.proofs.Refusals.{number-pos}
 use Rattle.table.proofs.fill.Reads as Fill
 use Rattle.table.proofs.edit_count.Reads as EditCount
 use Rattle.table.proofs.edit_pair.Reads as EditPair
+use Rattle.table.proofs.number_of.Reads as NumberOf
 
 -- A refusal is known by its number.
 refusalOf : ℕ → Refusal
@@ -60,3 +61,6 @@ pair-determined : DeterminedWith {L = List ℕ × Table} EditPair.Post
 pair-determined k a x y r q p s =
     let e = p .0 ∙ sym (s .0) in
     (told e r q refl refl, ap (λ (z : Result). (z .figures .divisors, z .table)) e)
+
+number-of-determined : Determined NumberOf.Post
+number-of-determined k a x r q p s = p ∙ sym s

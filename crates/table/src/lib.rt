@@ -4,7 +4,7 @@ use crate::checks::Checked;
 use relations::Set;
 use relations::pairs;
 ghost use Rattle.table.specs.Requests.{fill, editCount, editPair};
-ghost use Rattle.table.specs.Results.{called, resultOf, result};
+ghost use Rattle.table.specs.Results.{numberOf, called, resultOf, result};
 ghost use Rattle.table.specs.Demands.{Demand2, Demand3, Keeps};
 
 // What is checked before anything is written.
@@ -47,6 +47,22 @@ struct Job {
     n: u32,
     model: u32,
     limit: u64,
+}
+
+// A refusal's number in document 01.
+pub fn number_of(why: Refusal) -> u32
+    ensures { λ x. ⌜ x ≡ numberOf why ⌝ }
+{
+    match why {
+        Refusal::Relations => 1,
+        Refusal::Lengths => 2,
+        Refusal::ZeroDivisor => 3,
+        Refusal::UnknownModel => 4,
+        Refusal::HighLimit => 5,
+        Refusal::ShortColumn => 6,
+        Refusal::NoPlan => 7,
+        Refusal::Name => 8,
+    }
 }
 
 // Every row below 2^n by the row rule, whatever the columns held.

@@ -9,9 +9,9 @@ use borrow.Author.Tests.{not-true, not-false}
 use borrow.Fn.Kinds.{In}
 use borrow.Fn.PlainCycle.{Measures, is, falls, and}
 use Rattle.numbers.specs.Texts.{decimal}
+use Rattle.numbers.proofs.put_decimal.Reads as put-decimal
+use Rattle.numbers.proofs.wide.Reads as wide
 use Rattle.relations.specs.Sets.{lowest}
-use Rattle.relations.proofs.Members.{mem-most}
-use Rattle.relations.proofs.Lowest.{lowest-mem}
 use Rattle.relations.proofs.Set.is_larger.Reads as is-larger
 use Rattle.relations.proofs.Set.lowest.Reads as lowest-of
 use Rattle.relations.proofs.Set.minus.Reads as minus
@@ -21,7 +21,6 @@ use Rattle.newick.specs.Texts.{text}
 use Rattle.newick.proofs.WalkLaws.{Steps, walk-on}
 use Rattle.newick.proofs.TextLaws.{length-join}
 use Rattle.newick.proofs.Writing.{join-written}
-use Rattle.newick.proofs.texts.put_number.Reads as put-number
 use Rattle.newick.proofs.walks.left_part.Reads as left-part
 use Rattle.newick.proofs.texts.put_tree.Reads as reads
 use Rattle.newick.proofs.texts.put_tree.Kinds as kinds
@@ -42,8 +41,10 @@ claims t = (
   is-larger.Learnt,
   lowest-of.Asked,
   lowest-of.Learnt,
-  put-number.Asked,
-  put-number.Learnt,
+  wide.Asked,
+  wide.Learnt,
+  put-decimal.Asked,
+  put-decimal.Learnt,
   left-part.Asked,
   left-part.Learnt,
   minus.Asked,
@@ -54,20 +55,15 @@ claims t = (
 
 module _ (t : ℕ) where
   -- Of a relation alone, once it is known.
-  module _ (c : lts.After-lowest (claims t) (here t) reads.Post) where
+  module _ (c : lts.After-wide (claims t) (here t) reads.Post) where
     abbrev whole : lts.Start (claims t) (here t) reads.Post
-    whole = c .before .before .before .before .before
+    whole = c .before .before .before .before .before .before
 
-    alone : text (planOf (whole .args .lefts .now) (whole .args .set .number)) ≡ decimal (c .lowest .result)
+    alone : text (planOf (whole .args .lefts .now) (whole .args .set .number)) ≡ decimal (c .wide .result)
     unfolding text
     alone =
-        ap text (plan-alone _ _ (whole .pre .1 .0 .some) (sym (c .before .before .is-larger .ensures) ∙ not-true _ (c .before .if1 .taken)))
-        ∙ ap decimal (sym (c .lowest .ensures))
-
-    few : c .lowest .result < 100
-    few =
-        let S = whole .args .set .number in
-        omega (arith, c .lowest .ensures, mem-most (lowest S) S 32 (lowest-mem S (whole .pre .1 .0 .some)) (omega arith))
+        ap text (plan-alone _ _ (whole .pre .1 .0 .some) (sym (c .before .before .before .is-larger .ensures) ∙ not-true _ (c .before .before .if1 .taken)))
+        ∙ ap decimal (sym (c .wide .ensures ∙ c .before .lowest .ensures))
 
   -- Once both parts are known.
   module _ (c : lts.After-minus (claims t) (here t) reads.Post) where
@@ -117,7 +113,7 @@ module _ (t : ℕ) where
     all-long = ap length (c .put-tree2 .ensures .1) ∙ simp (length-sets, length-set) (left-long left)
 
   returns : lts.Need-returns (claims t) (here t) reads.Post
-  returns c = let e = c .before .before in rw (alone (e .before .before)) (e .put-number .ensures)
+  returns c = let e = c .before .before in rw (alone (e .before .before)) (e .put-decimal .ensures)
 
   returns-2 : lts.Need-returns-2 (claims t) (here t) reads.Post
   returns-2 c =
@@ -131,13 +127,13 @@ module _ (t : ℕ) where
             ∙ ap (λ (x : Tree). sets (out a) (place a) (text x)) (sym (steps a .tree)),
       )
 
-  put-number-requires : lts.Need-put-number-requires (claims t) (here t) reads.Post
-  put-number-requires c _ =
+  put-decimal-requires : lts.Need-put-decimal-requires (claims t) (here t) reads.Post
+  put-decimal-requires c _ =
       let e = c .before in
-      (few e, omega (arith, whole e .pre .1 .1, ap length (alone e)))
+      omega (arith, whole e .pre .1 .1, ap length (alone e))
 
   same-length : lts.Need-same-length (claims t) (here t) reads.Post
-  same-length c = c .before .before .put-number .kept .1 .0
+  same-length c = c .before .before .put-decimal .kept .1 .0
 
   left-part-requires : lts.Need-left-part-requires (claims t) (here t) reads.Post
   left-part-requires c _ = c .before .before .before .before .pre .1 .0 .room
@@ -191,7 +187,8 @@ pub +put-tree-spec : {M : Type 1} → statement M
 +put-tree-spec = close μ λ t. lts.spec (claims t) (here t) reads.Post
     (λ _ _. tt)
     (λ _ _. tt)
-    (put-number-requires t)
+    (λ _ _. tt)
+    (put-decimal-requires t)
     (same-length t)
     (returns t)
     (left-part-requires t)

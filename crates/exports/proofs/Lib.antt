@@ -1,0 +1,2 @@
+-- The exports leave nothing open.
+mod Determined
