@@ -2,11 +2,10 @@
 use Prim.Native.Nat.{ℕ, zero, suc, _+_, _*_, _^_, _≤_, _<_, min}
 use native.Mathlib.Nat.{add-comm, mul-comm, min-comm, lt-of-le-of-lt, mul-le-mul-left}
 use native.Mathlib.Omega.{arith}
-use mathlib.Core.Path.{_≡_, refl, sym, ap, _∙_}
+use mathlib.Core.Path.{_≡_, refl}
 use Rattle.numbers.proofs.Products.{product-fits}
-use Rattle.charges.specs.Charges.{log2, w, sortMerge, diskLoops, Answer, answer, priced, charge}
-use Rattle.charges.specs.declared.Charged.{Charged}
-use Rattle.charges.specs.declared.Charged.the-variants.{At, UnknownModel}
+use Rattle.charges.specs.Charges.{log2, w, sortMerge, diskLoops, priced, charge}
+use Rattle.charges.specs.Parts.{diskResult, diskSplit, resultPart, splitPart}
 use Rattle.charges.proofs.Log.{log-leading}
 use Rattle.charges.proofs.Rounding.{up-near}
 
@@ -26,6 +25,14 @@ charge-bounded (suc (suc zero)) a b o ha hb ho =
     omega (arith, product-fits 32 32 a b ha hb, up-near o 10, up-near (a * b) 9900, up-near (min a b) 10)
 charge-bounded (suc (suc (suc model))) a b o ha hb ho = omega arith
 
+-- The two parts of a charge together. A search that leaves out the first, where every split pays it, finds the same split.
+pub charge-parts : (model a b o : ℕ) → resultPart model o + splitPart model a b ≡ charge model a b o
+unfolding charge priced resultPart splitPart diskLoops diskResult diskSplit
+charge-parts zero a b o = omega arith
+charge-parts (suc zero) a b o = omega arith
+charge-parts (suc (suc zero)) a b o = omega arith
+charge-parts (suc (suc (suc model))) a b o = refl
+
 -- A split and its mirror are charged the same.
 pub charge-symmetric : (model a b o : ℕ) → charge model a b o ≡ charge model b a o
 unfolding charge priced sortMerge diskLoops
@@ -33,6 +40,14 @@ charge-symmetric zero a b o = refl
 charge-symmetric (suc zero) a b o = add-comm (w a) (w b)
 charge-symmetric (suc (suc zero)) a b o = rw (mul-comm a b, min-comm a b)
 charge-symmetric (suc (suc (suc model))) a b o = refl
+
+-- So it is with the part that goes by the split.
+module _ (model a b : ℕ) where
+  pub split-bounded : a < 2 ^ 32 → b < 2 ^ 32 → splitPart model a b < 2 ^ 51
+  split-bounded ha hb = omega (arith, charge-parts model a b 0, charge-bounded model a b 0 ha hb (omega arith))
+
+  pub split-symmetric : splitPart model a b ≡ splitPart model b a
+  split-symmetric = omega (arith, charge-parts model a b 0, charge-parts model b a 0, charge-symmetric model a b 0)
 
 -- "The model is a number from 0 to 2": each of these is answered with 0, done ..
 pub known : (model a b o : ℕ) → model < 3 → priced model a b o .number ≡ 0
@@ -57,12 +72,3 @@ model-alone zero a b o a' b' o' = refl
 model-alone (suc zero) a b o a' b' o' = refl
 model-alone (suc (suc zero)) a b o a' b' o' = refl
 model-alone (suc (suc (suc model))) a b o a' b' o' = refl
-
--- What a caller reads off an answer: the charge; and that a model known at any sizes is never refused.
-pub charge-told : (model a b o x : ℕ) (r : Charged) → answer r ≡ priced model a b o → r ≡ At x → x ≡ charge model a b o
-unfolding charge
-charge-told model a b o x r e q = ap (λ (y : Answer). y .charge) (ap answer (sym q) ∙ e)
-
-pub never-unknown : (model a b o : ℕ) (r : Charged) → priced model 0 0 0 .number ≡ 0 → answer r ≡ priced model a b o → r ≡ UnknownModel → ⊥
-never-unknown model a b o r h e q =
-    omega (arith, ap (λ (y : Answer). y .number) (ap answer (sym q) ∙ e), model-alone model a b o 0 0 0)

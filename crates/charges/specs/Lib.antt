@@ -1,2 +1,3 @@
 -- What a reader must believe of the charges.
 pub mod Charges
+pub mod Parts

@@ -1,9 +1,10 @@
 // What a join costs beside its two trees (document 01, "Costs"). A size is any u32, and nothing overflows.
 ghost use mathlib.Core.Path.{_≡_};
-ghost use Prim.Native.Nat.{_<_, min};
+ghost use Prim.Native.Nat.{_+_, _^_, _<_, _≤_, min};
 use numbers::product;
 use numbers::wide;
 ghost use Rattle.charges.specs.Charges.{up, log2, w, sortMerge, diskLoops, priced, answer};
+ghost use Rattle.charges.specs.Parts.{diskResult, diskSplit, resultPart, splitPart};
 
 // The charge of a join, or the refusal of a model that there is not.
 pub enum Charged {
@@ -11,7 +12,7 @@ pub enum Charged {
     UnknownModel,
 }
 
-// The charge under `model` of joining sizes a and b into size o. This is the one list of the models.
+// The charge under `model` of joining sizes a and b into size o. This is the list of the models; the parts below follow it.
 pub fn charge(model: u32, a: u32, b: u32, o: u32) -> Charged
     ensures { λ r. ⌜ answer r ≡ priced model a b o ⌝ }
 {
@@ -22,6 +23,34 @@ pub fn charge(model: u32, a: u32, b: u32, o: u32) -> Charged
         3..=4294967295 => Charged::UnknownModel,
     }
 }
+
+// ---- a charge in two parts (document 002, section 3.2), so that a search works out the first only once; none for an unknown model
+
+// The part that every split into size o pays.
+pub fn result_part(model: u32, o: u32) -> u64
+    ensures { λ r. ⌜ r ≡ resultPart model o ⌝ }
+{
+    match model {
+        0 => wide(o),
+        1 => 0,
+        2 => disk_result(o),
+        3..=4294967295 => 0,
+    }
+}
+
+// The part that goes by the sizes a and b of the split.
+pub fn split_part(model: u32, a: u32, b: u32) -> u64
+    ensures { λ r. ⌜ r ≡ splitPart model a b ⌝ }
+{
+    match model {
+        0 => 0,
+        1 => sort_merge(a, b),
+        2 => disk_split(a, b),
+        3..=4294967295 => 0,
+    }
+}
+
+// ---- the models
 
 // Model 1.
 fn sort_merge(a: u32, b: u32) -> u64
@@ -40,7 +69,21 @@ const PAIRS: u64 = 9900;
 fn disk_loops(a: u32, b: u32, o: u32) -> u64
     ensures { λ r. ⌜ r ≡ diskLoops a b o ⌝ }
 {
-    2 * up(wide(o), BLOCK) + up(product(a, b), PAIRS) + up(wide(least(a, b)), BLOCK)
+    disk_result(o) + disk_split(a, b)
+}
+
+// What is written and read back of the result.
+fn disk_result(o: u32) -> u64
+    ensures { λ r. ⌜ r ≡ diskResult o ⌝ }
+{
+    2 * up(wide(o), BLOCK)
+}
+
+// What is read of the two parts.
+fn disk_split(a: u32, b: u32) -> u64
+    ensures { λ r. ⌜ r ≡ diskSplit a b ⌝ }
+{
+    quick_up(product(a, b), PAIRS) + quick_up(wide(least(a, b)), BLOCK)
 }
 
 // The work of sorting x rows.
@@ -68,6 +111,14 @@ pub fn up(x: u64, d: u64) -> u64
         return q;
     }
     q + 1
+}
+
+// The same without a test, where x + d - 1 cannot overflow: it stands in the innermost loop.
+fn quick_up(x: u64, d: u64) -> u64
+    requires { ⌜ (0 < d) × (x + d ≤ 2 ^ 64) ⌝ }
+    ensures { λ r. ⌜ r ≡ up x d ⌝ }
+{
+    (x + (d - 1)) / d
 }
 
 fn least(a: u32, b: u32) -> u32

@@ -108,7 +108,7 @@ digit-weight zero v h = omega arith
 digit-weight (suc zero) v h = omega arith
 digit-weight (suc (suc d)) v h = absurd (omega arith)
 
-members-mod : (n S : ℕ) → those (λ k. mem k S) n ≡ S % 2 ^ n
+pub members-mod : (n S : ℕ) → those (λ k. mem k S) n ≡ S % 2 ^ n
 unfolding those weight mem
 members-mod zero S = sym (mod-one S)
 members-mod (suc n) S =

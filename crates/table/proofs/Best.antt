@@ -1,15 +1,35 @@
 -- The cheapest split, by its price: it is the least of the prices, and the left part is the first that has it.
-use Prim.Native.Nat.{ℕ, zero, suc, _<_, _≤_}
+use Prim.Native.Nat.{ℕ, zero, suc, _+_, _<_, _≤_}
 use native.Mathlib.Nat.{eq-or-lt-of-le, le-of-suc-le-suc}
 use native.Mathlib.Omega.{arith}
 use mathlib.Core.Path.{_≡_, refl, ap₂, _∙_}
 use mathlib.Core.Logic.{_⊎_, inl, inr}
 use mathlib.Core.Bool.{Bool, true, false, cond}
 use lib.Dec.{ltb}
-use native.Mathlib.Decide.{le-ind}
-use borrow.Author.Tests.{ltb-true, ltb-false, le-ltb}
+use native.Mathlib.Decide.{decLe, le-ind}
+use borrow.Author.Tests.{ltb-true, ltb-false, lt-ltb, le-ltb}
 use Rattle.table.specs.Rule.{NONE, better, bestTo}
 use Rattle.table.specs.declared.splits.Split.{Split}
+
+-- ---- one more left part
+
+pub better-stays : (p : ℕ → ℕ) (b : Split) (L : ℕ) → b .cost ≤ p L → better p b L ≡ b
+unfolding better
+better-stays p b L h = rw (le-ltb (p L) (b .cost) h)
+
+pub better-new : (p : ℕ → ℕ) (b : Split) (L : ℕ) → p L < b .cost → better p b L ≡ record { cost = p L; left = L }
+unfolding better
+better-new p b L h = rw (lt-ltb (p L) (b .cost) h)
+
+-- It costs no more than the best before it.
+pub better-most : (p : ℕ → ℕ) (b x : Split) (L : ℕ) → x ≡ better p b L → x .cost ≤ b .cost
+better-most p b x L e = rw e (by (decLe (b .cost) (p L)))
+  where
+    by : Dec (b .cost ≤ p L) → better p b L .cost ≤ b .cost
+    by (yes h) = rw (better-stays p b L h) (omega arith)
+    by (no h) = rw (better-new p b L (omega arith)) (omega arith)
+
+-- ---- all of them
 
 -- Of a split b among those below k: no price is less than its cost, and if its cost is not NONE it is the price of its left part, the
 -- first to have it.
@@ -79,17 +99,19 @@ best-ext p q (suc k) h =
     ap₂ (λ (b : Split) (x : ℕ). cond (ltb x (b .cost)) (record { cost = x; left = k }) b)
     (best-ext p q k (λ L l. h L (omega arith))) (h k (omega arith))
 
--- Nothing below NONE between a and b: the best below b is the best below a. So code that visits only the parts of S gives the same.
-pub best-skip : (price : ℕ → ℕ) (a b : ℕ) → a ≤ b → ((L : ℕ) → a ≤ L → L < b → NONE ≤ price L) → bestTo price b ≡ bestTo price a
+-- Nothing cheaper between a and b than what is found below a: the best below b is the best below a.
+pub best-stays : (price : ℕ → ℕ) (a b : ℕ) → a ≤ b → ((L : ℕ) → a ≤ L → L < b → bestTo price a .cost ≤ price L) → bestTo price b ≡ bestTo price a
 unfolding bestTo better
-best-skip price a b h dear = le-ind (λ (x : ℕ). x ≤ b → bestTo price x ≡ bestTo price a) (λ _. refl) step b h (omega arith)
+best-stays price a b h dear = le-ind (λ (x : ℕ). x ≤ b → bestTo price x ≡ bestTo price a) (λ _. refl) step b h (omega arith)
   where
-    same : (c : Split) (L : ℕ) → c .cost ≤ price L → better price c L ≡ c
-    same c L l = rw (le-ltb (price L) (c .cost) l)
-
     step : (m : ℕ) → a ≤ m → (m ≤ b → bestTo price m ≡ bestTo price a) → suc m ≤ b → bestTo price (suc m) ≡ bestTo price a
     step m g ih l =
-        same (bestTo price m) m (omega (arith, best price m .most, dear m g l)) ∙ ih (omega arith)
+        let e = ih (omega arith) in
+        better-stays price (bestTo price m) m (rw e (dear m g l)) ∙ e
+
+-- So code that visits only the parts of S, where nothing else has a price, gives the same.
+pub best-skip : (price : ℕ → ℕ) (a b : ℕ) → a ≤ b → ((L : ℕ) → a ≤ L → L < b → NONE ≤ price L) → bestTo price b ≡ bestTo price a
+best-skip price a b h dear = best-stays price a b h (λ L g l. omega (arith, best price a .most, dear L g l))
 
 -- A turn of the loop over the left parts: after a, the next that can have a price below NONE is b.
 pub best-hop : (price : ℕ → ℕ) (a b : ℕ) → a < b → ((L : ℕ) → a < L → L < b → NONE ≤ price L) → bestTo price b ≡ better price (bestTo price a) a
@@ -98,3 +120,34 @@ best-hop price a b h dear = best-skip price (suc a) b h dear ∙ unfold bestTo i
 -- Before the first left part nothing is found.
 pub best-start : (price : ℕ → ℕ) (b : ℕ) → ((L : ℕ) → L < b → NONE ≤ price L) → bestTo price b ≡ record { cost = NONE; left = 0 }
 best-start price b dear = best-skip price 0 b (omega arith) (λ L _. dear L) ∙ unfold bestTo in refl
+
+-- Prices that differ by c and by nothing else: the same split is the best, and its cost differs by c.
+abbrev pub Above : ℕ → ℕ → ℕ → Type 0
+Above c x y = ((x ≡ NONE) × (y ≡ NONE)) ⊎ ((y ≡ x + c) × (y < NONE))
+
+module _ (p q : ℕ → ℕ) (c : ℕ) (each : (L : ℕ) → Above c (p L) (q L)) where
+  pub record Aside (b d : Split) : Type 0 where
+    pub cost : Above c (b .cost) (d .cost)
+    pub left : d .left ≡ b .left
+
+  pub best-aside : (k : ℕ) → Aside (bestTo p k) (bestTo q k)
+  unfolding bestTo better
+  best-aside zero = record { cost = inl (refl, refl); left = refl }
+  best-aside (suc k) = step (bestTo p k) (bestTo q k) (best p k .most) (best-aside k) (best-aside k .cost) (each k)
+    where
+      stay : (b d : Split) → Aside b d → b .cost ≤ p k → d .cost ≤ q k → Aside (better p b k) (better q d k)
+      stay b d a x y = rw (better-stays p b k x, better-stays q d k y) a
+
+      take : (b d : Split) → Above c (p k) (q k) → p k < b .cost → q k < d .cost → Aside (better p b k) (better q d k)
+      take b d e x y = rw (better-new p b k x, better-new q d k y) (record { cost = e; left = refl })
+
+      both : (b d : Split) → Aside b d → (q k ≡ p k + c) → q k < NONE → (d .cost ≡ b .cost + c) → Dec (b .cost ≤ p k)
+          → Aside (better p b k) (better q d k)
+      both b d a e l f (yes x) = stay b d a x (omega arith)
+      both b d a e l f (no x) = take b d (inr (e, l)) (omega arith) (omega arith)
+
+      step : (b d : Split) → b .cost ≤ NONE → Aside b d → Above c (b .cost) (d .cost) → Above c (p k) (q k) → Aside (better p b k) (better q d k)
+      step b d m a (inl f) (inl e) = stay b d a (omega (arith, e .0)) (omega (arith, e .1, f .1))
+      step b d m a (inr f) (inl e) = stay b d a (omega (arith, e .0)) (omega (arith, e .1, f .1))
+      step b d m a (inl f) (inr e) = take b d (inr e) (omega (arith, e .0, e .1, f .0)) (omega (arith, e .1, f .1))
+      step b d m a (inr f) (inr e) = both b d a (e .0) (e .1) (f .0) (decLe (b .cost) (p k))

@@ -6,6 +6,7 @@ pub mod Mending
 pub mod Best
 pub mod Rules
 pub mod Search
+mod Aside
 pub mod Products
 pub mod SizeLaws
 pub mod TreeLaws

@@ -5,30 +5,21 @@ use native.Mathlib.Decide.{decLe}
 use native.Mathlib.Nat.{eq-or-lt-of-le, le-of-eq}
 use native.Mathlib.Omega.{arith}
 use mathlib.Core.Logic.{_⊎_, inl, inr}
-use mathlib.Core.Path.{_≡_, refl, sym, _∙_}
+use mathlib.Core.Path.{_≡_, refl, sym, ap, _∙_}
 use mathlib.Core.Bool.{Bool, true, false, _&&_, cond}
 use lib.Dec.{leb}
-use borrow.Author.Tests.{lt-ltb, le-ltb, lt-leb}
-use Rattle.relations.specs.Sets.{Part}
+use borrow.Author.Tests.{lt-leb}
+use Rattle.relations.specs.Sets.{weight, Part, lowest, rest}
 use Rattle.relations.specs.Splits.{Next}
-use Rattle.relations.proofs.Parts.{part-le}
+use Rattle.relations.proofs.Parts.{part-le, part-other}
+use Rattle.relations.proofs.Twos.{with-lowest, after-with, lowest-first, after-lowest}
 use Rattle.table.specs.Figures.{Figures}
 use Rattle.table.specs.Tables.{Table, rowAt}
 use Rattle.table.specs.Rule.{NONE, Job, better, bestTo, splits, joinCost, within, price}
 use Rattle.table.specs.declared.splits.Split.{Split}
 use Rattle.table.proofs.Reasoning.{by-test}
-use Rattle.table.proofs.Best.{best, best-hop, best-start}
-use Rattle.table.proofs.Rules.{is-split, Used, price-used, price-none}
-
--- ---- one split
-
-pub better-stays : (p : ℕ → ℕ) (b : Split) (L : ℕ) → b .cost ≤ p L → better p b L ≡ b
-unfolding better
-better-stays p b L h = rw (le-ltb (p L) (b .cost) h)
-
-pub better-new : (p : ℕ → ℕ) (b : Split) (L : ℕ) → p L < b .cost → better p b L ≡ record { cost = p L; left = L }
-unfolding better
-better-new p b L h = rw (lt-ltb (p L) (b .cost) h)
+use Rattle.table.proofs.Best.{better-stays, better-new, best, best-stays, best-hop, best-start}
+use Rattle.table.proofs.Rules.{is-split, Used, price-used, used-price, price-none}
 
 -- What a total t comes to under a limit: it is the price where it is within the limit, and there is none where it is not.
 pub record Prices (limit t p : ℕ) : Type 0 where
@@ -113,10 +104,18 @@ module _ (price : ℕ → ℕ) (limit : ℕ) where
     pub some : l < S → 0 < l
     pub searched : Searched l b
 
-  pub visit-last : (S l : ℕ) (b : Split) → S ≤ l → Visited S l b → Searched S b
-  visit-last S l b h v =
-      let e : l ≡ S = omega (arith, part-le l S (v .part)) in
-      rw (← e) (v .searched)
+  -- Past the middle of S there are only mirrors of splits that were tried, at the same price, and the first of equals stays.
+  pub visit-half : (S l : ℕ) (b : Split) → S < l + l → ((L : ℕ) → L < S → price L < NONE → price (S - L) ≡ price L) → Visited S l b → Searched S b
+  visit-half S l b h mirror v =
+      let e = best-stays price l S (part-le l S (v .part)) later in
+      record { cost = rw e (v .searched .cost); left = rw e (v .searched .left) }
+    where
+      later : (L : ℕ) → l ≤ L → L < S → bestTo price l .cost ≤ price L
+      later L g k = by (decLe NONE (price L))
+        where
+          by : Dec (NONE ≤ price L) → bestTo price l .cost ≤ price L
+          by (yes x) = omega (arith, best price l .most)
+          by (no x) = omega (arith, mirror L k (omega arith), best price l .least (S - L) (omega arith))
 
   module _ (S : ℕ) (quiet : (L : ℕ) → (0 < L → Part L S → ⊥) → price L ≡ NONE) where
     pub visit-first : limit < NONE → (N : ℕ) → Next S 0 N → Visited S N (record { cost = limit + 1; left = 0 })
@@ -132,6 +131,31 @@ module _ (price : ℕ → ℕ) (limit : ℕ) where
       some = λ _. omega (arith, next .above h);
       searched = search-next l N t b (next .above h) (λ L g k. le-of-eq (sym (quiet L (λ p q. omega (arith, next .least L q g))))) pr (v .searched);
     }
+
+    -- ---- two at a time
+
+    -- The search has come to a part of the rest of S.
+    pub record Paired (l : ℕ) (b : Split) : Type 0 where
+      pub visited : Visited S l b
+      pub rest : Part l (rest S)
+
+    module _ (some : 0 < S) where
+      -- The lowest relation alone, of weight p and total t, is the first left part.
+      pub pair-first : limit < NONE → (N t p : ℕ) (b : Split) → p ≡ weight (lowest S) → p < S → Next (rest S) 0 N → Prices limit t (price p)
+          → b ≡ better (λ _. t) (record { cost = limit + 1; left = 0 }) p → Paired N b
+      pair-first low N t p b e h next pr x = rw x (record {
+        visited = visit-next p N t _ h (rw e (after-lowest S some N next)) pr (visit-first low p (rw e (lowest-first S some)));
+        rest = next .part;
+      })
+
+      -- A part of total t, and then the same with the lowest relation, of total u.
+      pub pair-next : (l N t u p : ℕ) (b b₂ b₃ : Split) → p ≡ weight (lowest S) → l + p < S → Next (rest S) l N → Prices limit t (price l)
+          → Prices limit u (price (l + p)) → b₂ ≡ better (λ _. t) b l → b₃ ≡ better (λ _. u) b₂ (l + p) → Paired l b → Paired N b₃
+      pair-next l N t u p b b₂ b₃ e h next pt pu x y v = rw (y, x) (record {
+        visited = visit-next (l + p) N u _ h (rw e (after-with S some l (v .rest) N next)) pu
+            (visit-next l (l + p) t b (omega arith) (rw e (with-lowest S some l (v .rest))) pt (v .visited));
+        rest = next .part;
+      })
 
 -- ---- the prices of the row rule
 
@@ -154,6 +178,10 @@ module _ (job : Job) (fig : Figures) (T : Table) (S o L : ℕ) where
       ends true x y = refl
       ends false x y = refl
 
+  -- So it is with the right part r, however it was found.
+  pub tried : (r : ℕ) → r ≡ S - L → splits job fig S L ≡ true → Prices (job .limit) (joinCost job fig (rowAt T L) (rowAt T r) o) (price job fig T S o L)
+  tried r e h = rw e (split-price h)
+
   -- What is no left part has no price.
   pub quiet-price : (0 < L → Part L S → ⊥) → price job fig T S o L ≡ NONE
   quiet-price h =
@@ -167,3 +195,31 @@ module _ (job : Job) (fig : Figures) (T : Table) (S o L : ℕ) where
           → (price job fig T S o L ≤ job .limit) ⊎ (price job fig T S o L ≡ NONE)
       by pr (yes h) = inl (rw (pr .within h) h)
       by pr (no h) = inr (pr .over (omega arith))
+
+-- Where charge and profile go by a split and its mirror alike, so does the price.
+module _ (job : Job) (fig : Figures) (T : Table) (S o : ℕ) (even : (a b c : ℕ) → job .charge a b c ≡ job .charge b a c)
+    (allows : (L : ℕ) → job .profile fig S L ≡ true → job .profile fig S (S - L) ≡ true) where
+  pub mirror-price : (L : ℕ) → L < S → price job fig T S o L < NONE → price job fig T S o (S - L) ≡ price job fig T S o L
+  mirror-price L l h =
+      price-used job fig T S o (S - L) (rw back (record {
+        split = record {
+          some = omega arith;
+          part = part-other L S (u .split .part);
+          allows = allows L (u .split .allows);
+        };
+        left = u .right;
+        right = u .left;
+        whole = omega (arith, same, u .whole);
+      }))
+      ∙ ap (λ (x : ℕ). joinCost job fig (rowAt T (S - L)) (rowAt T x) o) back
+      ∙ same
+      ∙ sym (price-used job fig T S o L u)
+    where
+      u : Used job fig S L o (rowAt T L) (rowAt T (S - L))
+      u = used-price job fig T S o L h
+
+      back : S - (S - L) ≡ L
+      back = omega arith
+
+      same : joinCost job fig (rowAt T (S - L)) (rowAt T L) o ≡ joinCost job fig (rowAt T L) (rowAt T (S - L)) o
+      same = unfold joinCost in omega (arith, even (rowAt T (S - L) .size) (rowAt T L .size) o)

@@ -5,8 +5,10 @@ use mathlib.Core.Path.{_≡_}
 use lib.ListN.{length, getD}
 use Rattle.relations.specs.Sets.{MOST, inside}
 use Rattle.charges.specs.Charges.{priced}
+use Rattle.charges.specs.Parts.{splitPart}
 use Rattle.table.specs.Figures.{Figures}
 use Rattle.table.specs.Tables.{Room}
+use Rattle.table.specs.Rule.{Job, bushy}
 use Rattle.table.specs.Results.{Call, numberOf}
 use Rattle.table.specs.declared.checks.Checked.{Checked}
 use Rattle.table.specs.declared.checks.Checked.the-variants.{Passed, Failed}
@@ -16,9 +18,14 @@ pub record Complete (fig : Figures) : Type 0 where
   pub pairs : length (fig .divisors) ≡ length (fig .counts) * (length (fig .counts) - 1) / 2
   pub positive : (k : ℕ) → 1 ≤ getD (fig .divisors) k 1
 
--- The product of up to fourteen divisors passes 64 bits. The code holds it here, which alters no size (proofs/Products, `up-held`).
+-- The product of up to fourteen divisors passes 64 bits, and so may the costs of two parts of a damaged table. The code holds them here,
+-- which alters no size (proofs/Products, `up-held`) and is above every limit.
 abbrev pub HELD : ℕ
 HELD = 18446744073709551615
+
+-- The part that a split pays of its own is all that the search charges, within the room that is left (document 002, section 3.2).
+abbrev pub splitJob : ℕ → ℕ → Job
+splitJob model room = record { charge = λ a b o. splitPart model a b; profile = bushy; limit = room }
 
 -- S holds the sets a and b. They are the relations that an edit names, one by one, and both are empty for a fill.
 unfoldable pub holding : ℕ → ℕ → ℕ → Bool

@@ -10,7 +10,6 @@ use crate::sizes;
 use crate::splits;
 use relations::Set;
 ghost use Rattle.relations.specs.Sets.{MOST, allOf};
-ghost use Rattle.charges.specs.Charges.{priced};
 ghost use Rattle.table.specs.Figures.{figures};
 ghost use Rattle.table.specs.Tables.{columns, rowAt, mendRow, mendTo};
 ghost use Rattle.table.specs.Rule.{jobFor, rowOf};
@@ -87,7 +86,7 @@ fn row_of(job: Job, counts: &[u32], divisors: &[u32], sizes: &[u32], costs: &[u6
     requires { ⌜ Complete (figures (now counts) (now divisors)) ⌝ }
     requires { ⌜ (length (now counts) ≤ MOST) × (set .number < 2 ^ length (now counts)) ⌝ }
     requires { ⌜ (2 ^ length (now counts) ≤ length (now sizes)) × (2 ^ length (now counts) ≤ length (now costs)) ⌝ }
-    requires { ⌜ (priced (job .model) 0 0 0 .number ≡ 0) × (job .limit ≤ 2 ^ 60) ⌝ }
+    requires { ⌜ job .limit ≤ 2 ^ 60 ⌝ }
     ensures { λ x. ⌜ ((lefts : List ℕ) → x
         ≡ rowOf (jobFor (job .model) (job .limit)) (figures (now (counts .entry)) (now (divisors .entry)))
         (columns (now (sizes .entry)) (now (costs .entry)) lefts) (set .number)) ⌝ }

@@ -37,7 +37,7 @@ row-of-requires : tie.Need-row-of-requires
 row-of-requires c κs =
     let f = c .before .before .before .before .before .before .before .before .before .before .before in
     let fit = f .pre .0 in
-    (record { pairs = fit .divisors; positive = fit .stored }, ((fit .few, f .pre .1), ((fit .room .sizes, fit .room .costs), (fit .model, fit .limit))))
+    (record { pairs = fit .divisors; positive = fit .stored }, ((fit .few, f .pre .1), ((fit .room .sizes, fit .room .costs), fit .limit)))
 
 pub mend-row-spec : {M : Type 1} → statement M
 mend-row-spec =

@@ -63,6 +63,14 @@ joined-requires c κs =
     let f = c .before .before .before .before .before .before .before .before .before in
     (sym (c .before .before .before .before .is-larger .ensures) ∙ not-false _ (c .before .before .before .if1 .left), (f .pre .1 .0 .1, f .pre .0))
 
+best-split-requires : tie.Need-best-split-requires
+best-split-requires c κs =
+    let rest = c .before .before .before in
+    let f = rest .before .before .before .before .before .before .before in (
+      (sym (rest .before .before .is-larger .ensures) ∙ not-false _ (rest .before .if1 .left), f .pre .1 .1 .1),
+      (omega (arith, f .pre .1 .0 .1, f .pre .1 .1 .0 .0), omega (arith, f .pre .1 .0 .1, f .pre .1 .1 .0 .1)),
+    )
+
 cast-left : tie.Need-cast-left
 cast-left c =
     let f = c .before .before .before .before .before .before .before .before .before .before .before .before in
@@ -85,6 +93,6 @@ row-of-spec =
     (λ c. search needs)
     shared-slice-read-joined
     joined-requires
-    (λ c κs. search needs)
+    best-split-requires
     cast-left
     returns-2)
