@@ -19,7 +19,7 @@ use std::process::exit;
 
 const FOLDER: &str = "docs/speed";
 
-/// Of a full run. It takes some ten minutes, and a quick one two.
+/// Of a full run. It takes ten to twenty minutes, and a quick one two to five.
 const REPETITIONS: usize = 5;
 
 fn main() {

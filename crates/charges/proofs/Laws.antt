@@ -2,6 +2,7 @@
 use Prim.Native.Nat.{ℕ, zero, suc, _+_, _*_, _^_, _≤_, _<_, min}
 use native.Mathlib.Nat.{add-comm, mul-comm, min-comm, lt-of-le-of-lt, mul-le-mul-left}
 use native.Mathlib.Omega.{arith}
+use mathlib.Core.Logic.{_≢_}
 use mathlib.Core.Path.{_≡_, refl}
 use Rattle.numbers.proofs.Products.{product-fits}
 use Rattle.charges.specs.Charges.{log2, w, sortMerge, diskLoops, priced, charge}
@@ -48,6 +49,14 @@ module _ (model a b : ℕ) where
 
   pub split-symmetric : splitPart model a b ≡ splitPart model b a
   split-symmetric = omega (arith, charge-parts model a b 0, charge-parts model b a 0, charge-symmetric model a b 0)
+
+-- What is neither model 1 nor 2 charges nothing for it.
+pub split-free : (model a b : ℕ) → model ≢ 1 → model ≢ 2 → splitPart model a b ≡ 0
+unfolding splitPart
+split-free zero a b h g = refl
+split-free (suc zero) a b h g = absurd (h refl)
+split-free (suc (suc zero)) a b h g = absurd (g refl)
+split-free (suc (suc (suc model))) a b h g = refl
 
 -- "The model is a number from 0 to 2": each of these is answered with 0, done ..
 pub known : (model a b o : ℕ) → model < 3 → priced model a b o .number ≡ 0

@@ -12,6 +12,7 @@ use Rattle.relations.proofs.Set.holds.Reads as Holds
 use Rattle.relations.proofs.Set.minus.Reads as Minus
 use Rattle.relations.proofs.Set.next_left.Reads as NextLeft
 use Rattle.relations.proofs.pairs.place.Reads as Place
+use Rattle.relations.proofs.pairs.place_below.Reads as PlaceBelow
 
 -- A set is its number.
 same-set : (A B : Set) → A .number ≡ B .number → A ≡ B
@@ -46,3 +47,6 @@ next-left-determined k a x r q p s = same-set r q (p .0 ∙ sym (s .0))
 
 place-determined : Determined Place.Post
 place-determined k a x r q p s = p ∙ sym s
+
+place-below-determined : Determined PlaceBelow.Post
+place-below-determined k a x r q p s = p ∙ sym s

@@ -159,6 +159,12 @@ rest-other S k m e =
     let own : mem (lowest S) (weight (lowest S)) ≡ true = mem-weight (lowest S) (mem-pos (lowest S) (rest S) q) in
     part-apart (weight (lowest S)) S (lowest-part S) (lowest S) own q
 
+-- So it has a higher number.
+pub rest-above : (S : ℕ) → 0 < S → (k : ℕ) → mem k (rest S) ≡ true → lowest S < k
+rest-above S some k m =
+    let up : ¬ (k < lowest S) = λ l. true≢false (sym (rest-part S k m) ∙ lowest-least S some .below k l) in
+    omega (arith, rest-other S k m)
+
 -- A set with no rest is a relation alone.
 pub alone : (S : ℕ) → rest S ≡ 0 → weight (lowest S) ≡ S
 unfolding rest

@@ -30,6 +30,19 @@ pub before-all : (n : ℕ) → before (suc n) ≡ n * (n - 1) / 2
 unfolding before
 before-all n = ap₂ (λ (x y : ℕ). x * y / 2) (omega arith) (omega arith)
 
+-- The code has h(h-1) as the square of h less h.
+pub up-to-square : (h : ℕ) → h ≤ h * h
+up-to-square zero = omega arith
+up-to-square (suc r) = omega arith
+
+square-less : (h k : ℕ) → k ≡ h - 1 → h * h - h ≡ h * k
+square-less zero k e = omega arith
+square-less (suc r) k e = let f : k ≡ r = omega arith in rw f (omega arith)
+
+pub before-square : (m h : ℕ) → h ≡ m - 1 → (h * h - h) / 2 ≡ before m
+unfolding before
+before-square m h e = rw (← e) (ap (λ (x : ℕ). x / 2) (square-less h (m - 2) (omega arith)))
+
 -- ---- the order of the names
 
 pub place-comm : (i j : ℕ) → place i j ≡ place j i

@@ -4,15 +4,15 @@ use Prim.Native.Nat.{ℕ, zero, suc, _+_, _-_, _*_, _/_, _%_, _^_, _<_, _≤_}
 use native.Mathlib.Decide.{decLe}
 use native.Mathlib.Nat.{add-mul, div-add-mod', le-of-suc-le-suc, lt-of-mul-lt-mul-right, lt-of-not-le, mul-le-mul-right}
 use native.Mathlib.Omega.{arith}
-use mathlib.Core.Bool.{Bool, true, false, _&&_, not, true≢false, false≢true}
-use mathlib.Core.Path.{_≡_, refl, sym, ap, ap₂, _∙_, subst}
+use mathlib.Core.Bool.{Bool, true, false, _&&_, not, false≢true}
+use mathlib.Core.Path.{_≡_, refl, sym, ap, ap₂, _∙_}
 use lib.Pow.{pow-pos}
 use Rattle.relations.specs.Sets.{weight, mem, those, Part, lowest, rest}
 use Rattle.relations.specs.Splits.{Next}
 use Rattle.numbers.proofs.Tests.{is-false}
 use Rattle.relations.proofs.Members.{mem-empty, mem-weight, mem-alone, weight-le, weight-pos, members-mod, members-same}
 use Rattle.relations.proofs.Parts.{part-none, part-self, part-le, part-trans, part-other, parts-sum, weight-part, mem-other, those-only}
-use Rattle.relations.proofs.Lowest.{lowest-least, lowest-mem, lowest-pos, lowest-part, rest-part, rest-other, rest-lt}
+use Rattle.relations.proofs.Lowest.{lowest-mem, lowest-pos, lowest-part, rest-part, rest-other, rest-above, rest-lt}
 
 -- Of two multiples of m the greater is greater by m at least.
 apart-by : (m X Y : ℕ) → X % m ≡ 0 → Y % m ≡ 0 → X < Y → X + m ≤ Y
@@ -40,9 +40,7 @@ module _ (S : ℕ) (some : 0 < S) where
       out : (k : ℕ) → mem k (those (λ j. mem j A) (lowest S)) ≡ true → ⊥
       out k m =
           let told = those-only (λ j. mem j A) (lowest S) k m in
-          let v = a k (told .1) in
-          let below : k < lowest S → ⊥ = λ l. true≢false (sym (rest-part S k v) ∙ lowest-least S some .below k l) in
-          rest-other S k v (omega (arith, told .0))
+          omega (arith, told .0, rest-above S some k (a k (told .1)))
 
       none : (k : ℕ) → mem k (those (λ j. mem j A) (lowest S)) ≡ mem k 0
       none k = is-false _ (out k) ∙ sym (mem-empty k)
@@ -54,7 +52,7 @@ module _ (S : ℕ) (some : 0 < S) where
       omega (arith, below-next (lowest S))
 
   -- In the lower half of a set of two or more, a part of the rest is not the whole of it.
-  pub below-whole : 0 < rest S → (A : ℕ) → Part A (rest S) → A ≤ S / 2 → A + weight (lowest S) < S
+  pub below-whole : 0 < rest S → (A : ℕ) → Part A (rest S) → A + A ≤ S → A + weight (lowest S) < S
   unfolding rest
   below-whole more A a h = omega (arith, part-le A (rest S) a, gap 0 (rest S) (part-none (rest S)) (part-self (rest S)) more, part-le (weight (lowest S)) S (lowest-part S))
 
@@ -81,7 +79,7 @@ module _ (S : ℕ) (some : 0 < S) where
     whole = part-trans A (rest S) S a (rest-part S)
 
     -- The lowest relation is on the other side of the split.
-    pub other-lowest : Part (weight (lowest S)) (S - A)
+    other-lowest : Part (weight (lowest S)) (S - A)
     other-lowest =
         weight-part (lowest S) (S - A) (mem-other (lowest S) S A whole ∙ ap₂ (λ (x y : Bool). x && not y) (lowest-mem S some) free)
 
@@ -117,13 +115,3 @@ module _ (S : ℕ) (some : 0 < S) where
         by : (M : ℕ) → Part M S → A + weight (lowest S) < M → (t : Bool) → mem (lowest S) M ≡ t → N ≤ M
         by M m l true e = omega (arith, next .least (M - weight (lowest S)) (having M m e) (omega arith))
         by M m l false e = next .least M (lacking M m e) (omega arith)
-
-  -- The empty set is followed by the lowest relation alone.
-  zero-first : 0 + weight (lowest S) ≡ weight (lowest S)
-  zero-first = omega arith
-
-  pub lowest-first : Next S 0 (weight (lowest S))
-  lowest-first = subst (Next S 0) zero-first (with-lowest 0 (part-none (rest S)))
-
-  pub after-lowest : (N : ℕ) → Next (rest S) 0 N → Next S (weight (lowest S)) N
-  after-lowest N next = subst (λ (x : ℕ). Next S x N) zero-first (after-with 0 (part-none (rest S)) N next)

@@ -14,11 +14,13 @@ pub fn place(i: u32, j: u32) -> usize
     }
 }
 
-// The place of the pair whose lower name is `low` and whose higher is `high`.
-fn place_below(low: u32, high: u32) -> usize
+// The same for a caller who knows which name is the lower: all sizes are worked out with it.
+pub fn place_below(low: u32, high: u32) -> usize
     ensures { λ r. ⌜ r ≡ before high + (low - 1) ⌝ }
 {
-    let pairs = numbers::product(less(high, 1), less(high, 2)) / 2;
+    // h(h-1) as the square less h, which needs no test for 0.
+    let h = less(high, 1);
+    let pairs = (numbers::product(h, h) - numbers::wide(h)) / 2;
     (pairs + numbers::wide(less(low, 1))) as usize
 }
 

@@ -15,7 +15,7 @@ use Rattle.table.specs.Inner.{splitJob}
 use Rattle.table.specs.declared.rows.Row.{Row}
 use Rattle.table.specs.declared.splits.Split.{Split}
 use Rattle.table.proofs.Reasoning.{by-test}
-use Rattle.table.proofs.Best.{best, best-start, Above, Aside, best-aside}
+use Rattle.table.proofs.Best.{best-start, Above, Aside, best-aside}
 use Rattle.table.proofs.Rules.{price-none}
 use Rattle.table.proofs.Search.{Prices, split-price}
 

@@ -21,14 +21,6 @@ pub better-new : (p : ℕ → ℕ) (b : Split) (L : ℕ) → p L < b .cost → b
 unfolding better
 better-new p b L h = rw (lt-ltb (p L) (b .cost) h)
 
--- It costs no more than the best before it.
-pub better-most : (p : ℕ → ℕ) (b x : Split) (L : ℕ) → x ≡ better p b L → x .cost ≤ b .cost
-better-most p b x L e = rw e (by (decLe (b .cost) (p L)))
-  where
-    by : Dec (b .cost ≤ p L) → better p b L .cost ≤ b .cost
-    by (yes h) = rw (better-stays p b L h) (omega arith)
-    by (no h) = rw (better-new p b L (omega arith)) (omega arith)
-
 -- ---- all of them
 
 -- Of a split b among those below k: no price is less than its cost, and if its cost is not NONE it is the price of its left part, the

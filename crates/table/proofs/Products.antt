@@ -14,7 +14,7 @@ use Rattle.relations.specs.Pairs.{place}
 use Rattle.relations.specs.Sets.{weight, mem, Part, lowest, rest, larger}
 use Rattle.relations.proofs.Members.{mem-pos, mem-weight, mem-alone, mem-empty, mem-most}
 use Rattle.relations.proofs.Parts.{part-self, part-trans, part-le, mem-other}
-use Rattle.relations.proofs.Lowest.{lowest-none, lowest-mem, lowest-pos, lowest-part, rest-part, rest-other}
+use Rattle.relations.proofs.Lowest.{lowest-none, lowest-mem, lowest-pos, lowest-part, rest-part, rest-other, rest-above}
 use Rattle.relations.proofs.Places.{place-below}
 use Rattle.charges.specs.Charges.{up}
 use Rattle.table.specs.Figures.{Figures, CEILING, count, divisor, across, joined}
@@ -150,9 +150,9 @@ module _ (ds : List ℕ) (r X : ℕ) where
         ∙ sym (held-times (p * d) (across ds r (rest Y) k) (across-pos ds r h (rest Y) k));
   }
 
-  -- The place that the next divisor is read at is there.
-  pub taken-place : (m p Y : ℕ) → ((k : ℕ) → mem k X ≡ true → place r k < m) → 0 < Y → Taken ds r X p Y → place r (lowest Y) < m
-  taken-place m p Y h y t = h (lowest Y) (t .part (lowest Y) (lowest-mem Y y))
+  -- What is so of every relation of X is so of the next.
+  pub taken-each : (P : ℕ → Type 0) (p Y : ℕ) → ((k : ℕ) → mem k X ≡ true → P k) → 0 < Y → Taken ds r X p Y → P (lowest Y)
+  taken-each P p Y h y t = h (lowest Y) (t .part (lowest Y) (lowest-mem Y y))
 
   pub taken-last : (p Y : ℕ) → Y ≡ 0 → Taken ds r X p Y → (k : ℕ) → X < 2 ^ k → p ≡ min HELD (across ds r X k)
   taken-last p Y e t k l =
@@ -171,11 +171,14 @@ module _ (fig : Figures) (S : ℕ) (more : larger S ≡ true) (below : S < 2 ^ l
   some : 0 < S
   some = omega (arith, larger-rest S more, part-le (rest S) S (rest-part S))
 
-  pub places-there : Complete fig → (k : ℕ) → mem k (rest S) ≡ true → place (lowest S) k < length (fig .divisors)
-  places-there w k m =
-      rw (w .pairs)
-      (place-below (length (fig .counts)) (lowest S) k (lowest-pos S some) (mem-pos k (rest S) m) (rest-other S k m) (lowest-most S (length (fig .counts)) below)
-      (mem-most k S (length (fig .counts)) (rest-part S k m) below))
+  -- The relations of the rest have higher numbers, and their pairs with the lowest a place.
+  pub places-there : Complete fig → (k : ℕ) → mem k (rest S) ≡ true → (lowest S < k) × (place (lowest S) k < length (fig .divisors))
+  places-there w k m = (
+    rest-above S some k m,
+    rw (w .pairs)
+        (place-below (length (fig .counts)) (lowest S) k (lowest-pos S some) (mem-pos k (rest S) m) (rest-other S k m) (lowest-most S (length (fig .counts)) below)
+        (mem-most k S (length (fig .counts)) (rest-part S k m) below)),
+  )
 
   -- The held product is no 0.
   pub product-pos : Complete fig → (d : ℕ) → ((k : ℕ) → rest S < 2 ^ k → d ≡ min HELD (across (fig .divisors) (lowest S) (rest S) k)) → 0 < d

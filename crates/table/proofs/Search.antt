@@ -11,8 +11,8 @@ use lib.Dec.{leb}
 use borrow.Author.Tests.{lt-leb}
 use Rattle.relations.specs.Sets.{weight, Part, lowest, rest}
 use Rattle.relations.specs.Splits.{Next}
-use Rattle.relations.proofs.Parts.{part-le, part-other}
-use Rattle.relations.proofs.Twos.{with-lowest, after-with, lowest-first, after-lowest}
+use Rattle.relations.proofs.Parts.{part-none, part-le, part-other}
+use Rattle.relations.proofs.Twos.{with-lowest, after-with}
 use Rattle.table.specs.Figures.{Figures}
 use Rattle.table.specs.Tables.{Table, rowAt}
 use Rattle.table.specs.Rule.{NONE, Job, better, bestTo, splits, joinCost, within, price}
@@ -101,7 +101,6 @@ module _ (price : ℕ → ℕ) (limit : ℕ) where
   -- The search has come to the part l.
   pub record Visited (S l : ℕ) (b : Split) : Type 0 where
     pub part : Part l S
-    pub some : l < S → 0 < l
     pub searched : Searched l b
 
   -- Past the middle of S there are only mirrors of splits that were tried, at the same price, and the first of equals stays.
@@ -121,41 +120,42 @@ module _ (price : ℕ → ℕ) (limit : ℕ) where
     pub visit-first : limit < NONE → (N : ℕ) → Next S 0 N → Visited S N (record { cost = limit + 1; left = 0 })
     visit-first low N next = record {
       part = next .part;
-      some = λ l. next .above (omega arith);
       searched = search-first low N (λ L l. le-of-eq (sym (quiet L (λ p q. omega (arith, next .least L q p)))));
     }
 
     pub visit-next : (l N t : ℕ) (b : Split) → l < S → Next S l N → Prices limit t (price l) → Visited S l b → Visited S N (better (λ _. t) b l)
     visit-next l N t b h next pr v = record {
       part = next .part;
-      some = λ _. omega (arith, next .above h);
       searched = search-next l N t b (next .above h) (λ L g k. le-of-eq (sym (quiet L (λ p q. omega (arith, next .least L q g))))) pr (v .searched);
     }
 
     -- ---- two at a time
 
-    -- The search has come to a part of the rest of S.
+    -- The search has tried the part l of the rest of S, in the lower half: the same with the lowest relation is next.
     pub record Paired (l : ℕ) (b : Split) : Type 0 where
-      pub visited : Visited S l b
+      pub visited : Visited S (l + weight (lowest S)) b
       pub rest : Part l (rest S)
+      pub low : l + l ≤ S
 
     module _ (some : 0 < S) where
-      -- The lowest relation alone, of weight p and total t, is the first left part.
-      pub pair-first : limit < NONE → (N t p : ℕ) (b : Split) → p ≡ weight (lowest S) → p < S → Next (rest S) 0 N → Prices limit t (price p)
-          → b ≡ better (λ _. t) (record { cost = limit + 1; left = 0 }) p → Paired N b
-      pair-first low N t p b e h next pr x = rw x (record {
-        visited = visit-next p N t _ h (rw e (after-lowest S some N next)) pr (visit-first low p (rw e (lowest-first S some)));
-        rest = next .part;
-      })
+      -- At first nothing is tried: after the empty set comes the lowest relation alone.
+      pub pair-first : limit < NONE → Paired 0 (record { cost = limit + 1; left = 0 })
+      pair-first low = record {
+        visited = visit-first low _ (with-lowest S some 0 (part-none (rest S)));
+        rest = part-none (rest S);
+        low = omega arith;
+      }
 
-      -- A part of total t, and then the same with the lowest relation, of total u.
-      pub pair-next : (l N t u p : ℕ) (b b₂ b₃ : Split) → p ≡ weight (lowest S) → l + p < S → Next (rest S) l N → Prices limit t (price l)
-          → Prices limit u (price (l + p)) → b₂ ≡ better (λ _. t) b l → b₃ ≡ better (λ _. u) b₂ (l + p) → Paired l b → Paired N b₃
-      pair-next l N t u p b b₂ b₃ e h next pt pu x y v = rw (y, x) (record {
-        visited = visit-next (l + p) N u _ h (rw e (after-with S some l (v .rest) N next)) pu
-            (visit-next l (l + p) t b (omega arith) (rw e (with-lowest S some l (v .rest))) pt (v .visited));
-        rest = next .part;
-      })
+      -- The part with the lowest relation, w, of total u: then comes the next part of the rest ..
+      pub pair-with : (l N u w : ℕ) (b b₂ : Split) → w ≡ l + weight (lowest S) → w < S → Next (rest S) l N → Prices limit u (price w)
+          → b₂ ≡ better (λ _. u) b w → Paired l b → Visited S N b₂
+      pair-with l N u w b b₂ e h next pr x v =
+          rw x (visit-next w N u b h (rw e (after-with S some l (v .rest) N next)) pr (rw e (v .visited)))
+
+      -- .. of total t, where it is in the lower half.
+      pub pair-part : (N t : ℕ) (b b₂ : Split) → N + N ≤ S → Part N (rest S) → Prices limit t (price N) → b₂ ≡ better (λ _. t) b N
+          → Visited S N b → Paired N b₂
+      pair-part N t b b₂ low p pr x v = rw x (record { visited = visit-next N _ t b (omega arith) (with-lowest S some N p) pr v; rest = p; low = low })
 
 -- ---- the prices of the row rule
 

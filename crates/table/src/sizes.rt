@@ -35,9 +35,9 @@ pub fn joined(counts: &[u32], divisors: &[u32], v: u32, set: Set) -> u32
     hold(charges::up(product, divisor))
 }
 
-// The product of the divisors between r and the relations of `others`, held at 2^64-1.
+// The product of the divisors between r and the relations of `others`, which have higher numbers, held at 2^64-1.
 fn across(divisors: &[u32], r: u32, others: Set) -> u64
-    requires { ⌜ ((k : ℕ) → mem k (others .number) ≡ true → place r k < length (now divisors)) ⌝ }
+    requires { ⌜ ((k : ℕ) → mem k (others .number) ≡ true → (r < k) × (place r k < length (now divisors))) ⌝ }
     requires { ⌜ ((k : ℕ) → 1 ≤ getD (now divisors) k 1) ⌝ }
     ensures { λ x. ⌜ ((k : ℕ) → others .number < 2 ^ k → x ≡ min HELD (across (now (divisors .entry)) r (others .number) k)) ⌝ }
 {
@@ -50,20 +50,23 @@ fn across(divisors: &[u32], r: u32, others: Set) -> u64
     product
 }
 
-// The divisor of a pair, the names in either order.
+// The divisor of the pair of relations i and j, i the lower.
 fn divisor(divisors: &[u32], i: u32, j: u32) -> u32
-    requires { ⌜ place i j < length (now divisors) ⌝ }
+    requires { ⌜ (i < j) × (place i j < length (now divisors)) ⌝ }
     ensures { λ x. ⌜ x ≡ divisor (now (divisors .entry)) i j ⌝ }
 {
-    let at = pairs::place(i, j);
+    let at = pairs::place_below(i, j);
     divisors[at]
 }
 
-// a times d, held at 2^64-1.
+// a times d, held at 2^64-1. A product of two numbers of 32 bits needs no hold.
 fn times(a: u64, d: u32) -> u64
     ensures { λ x. ⌜ x ≡ min HELD (a * d) ⌝ }
 {
     let wide = numbers::wide(d);
+    if a <= 4294967295 {
+        return a * wide;
+    }
     if wide == 0 {
         return 0;
     }

@@ -42,23 +42,24 @@ pub fn best_split(sizes: &[u32], costs: &[u64], model: u32, limit: u64, o: u32, 
     }
 }
 
-// The search, with a call of its own for the naive model, which charges a split nothing: compiled apart, its loop has no charge in it.
+// The search, with a call for each model that charges a split, so that no loop asks for the model. Any other charges a split nothing.
 fn search_by(sizes: &[u32], costs: &[u64], model: u32, room: u64, set: Set) -> Split
     requires { ⌜ (larger (set .number) ≡ true) × (room ≤ 2 ^ 60) ⌝ }
     requires { ⌜ (set .number < length (now sizes)) × (set .number < length (now costs)) ⌝ }
     ensures { λ x. ⌜ ((fig : Figures) (lefts : List ℕ) (o : ℕ)
         → x ≡ bestTo (price (splitJob model room) fig (columns (now (sizes .entry)) (now (costs .entry)) lefts) (set .number) o) (set .number)) ⌝ }
 {
-    if model == 0 {
-        return search(sizes, costs, 0, room, set);
+    match model {
+        1 => search(sizes, costs, 1, room, set),
+        2 => search(sizes, costs, 2, room, set),
+        _ => search(sizes, costs, 0, room, set),
     }
-    search(sizes, costs, model, room, set)
 }
 
-// The cheapest split within `room` by the parts' costs and the charge's part for the split. Left parts are tried in rising order, two at a
-// time: after a part of the rest comes the same with the lowest relation, and then the next part of the rest. Past the middle there are
-// only mirrors of splits that were tried: they cost the same, and the first of equals wins. The search starts from a cost one above the
-// room, so that the room is no test of its own.
+// The cheapest split within `room` by the parts' costs and the charge's part for the split. Left parts are tried in rising order, two a
+// turn: a part of the rest with the lowest relation, and then the next part of the rest. From where the right part has the lesser number
+// there are only mirrors of splits that were tried: they cost the same, and the first of equals wins. The search starts from a cost one
+// above the room, so that the room is no test of its own.
 fn search(sizes: &[u32], costs: &[u64], model: u32, room: u64, set: Set) -> Split
     requires { ⌜ (larger (set .number) ≡ true) × (room ≤ 2 ^ 60) ⌝ }
     requires { ⌜ (set .number < length (now sizes)) × (set .number < length (now costs)) ⌝ }
@@ -66,22 +67,23 @@ fn search(sizes: &[u32], costs: &[u64], model: u32, room: u64, set: Set) -> Spli
         → x ≡ bestTo (price (splitJob model room) fig (columns (now (sizes .entry)) (now (costs .entry)) lefts) (set .number) o) (set .number)) ⌝ }
 {
     let above = room + 1;
-    let none = Split {
+    let rest = set.rest();
+    let lowest = set.number - rest.number;
+    let mut best = Split {
         cost: above,
         left: 0,
     };
-    let rest = set.rest();
-    let lowest = set.minus(rest);
-    let half = set.number / 2;
-    let mut best = try_split(sizes, costs, model, none, lowest, rest);
-    let mut left = rest.next_left(Set::EMPTY);
-    while left.number <= half {
-        let right = set.minus(left);
-        best = try_split(sizes, costs, model, best, left, right);
-        let sum = left.number + lowest.number;
-        let with = Set { number: sum };
-        best = try_split(sizes, costs, model, best, with, right.minus(lowest));
-        left = rest.next_left(left);
+    let mut part = Set::EMPTY;
+    loop {
+        let with = part.number + lowest;
+        let other = rest.number - part.number;
+        best = try_split(sizes, costs, model, best, with, other);
+        part = rest.next_left(part);
+        let right = set.number - part.number;
+        if right < part.number {
+            break;
+        }
+        best = try_split(sizes, costs, model, best, part.number, right);
     }
     if best.cost <= room {
         return best;
@@ -92,27 +94,26 @@ fn search(sizes: &[u32], costs: &[u64], model: u32, room: u64, set: Set) -> Spli
     }
 }
 
-// The best split so far, or the split into `left` and `right` where that is cheaper. As in document 002, section 4.2, the charge is worked
-// out only where the parts alone cost less, so that no damaged cost overflows.
-fn try_split(sizes: &[u32], costs: &[u64], model: u32, best: Split, left: Set, right: Set) -> Split
-    requires { ⌜ (left .number < length (now sizes)) × (left .number < length (now costs)) ⌝ }
-    requires { ⌜ (right .number < length (now sizes)) × (right .number < length (now costs)) ⌝ }
+// The best split so far, or the split into the sets `left` and `right` where that is cheaper. As in document 002, section 4.2, the charge
+// is worked out only where the parts alone cost less, so that no damaged cost overflows.
+fn try_split(sizes: &[u32], costs: &[u64], model: u32, best: Split, left: u32, right: u32) -> Split
+    requires { ⌜ (left < length (now sizes)) × (left < length (now costs)) ⌝ }
+    requires { ⌜ (right < length (now sizes)) × (right < length (now costs)) ⌝ }
     requires { ⌜ best .cost ≤ 2 ^ 60 + 1 ⌝ }
     ensures { λ x. ⌜ ((fig : Figures) (lefts : List ℕ) (room o : ℕ)
         → x ≡ better (λ _. joinCost (splitJob model room) fig
-        (rowAt (columns (now (sizes .entry)) (now (costs .entry)) lefts) (left .number))
-        (rowAt (columns (now (sizes .entry)) (now (costs .entry)) lefts) (right .number)) o) best (left .number)) ⌝ }
+        (rowAt (columns (now (sizes .entry)) (now (costs .entry)) lefts) left)
+        (rowAt (columns (now (sizes .entry)) (now (costs .entry)) lefts) right) o) best left) ⌝ }
 {
-    let l = left.number as usize;
-    let r = right.number as usize;
+    let l = left as usize;
+    let r = right as usize;
     let parts = plus(costs[l], costs[r]);
     if parts < best.cost {
         let cost = parts + charges::split_part(model, sizes[l], sizes[r]);
         if cost < best.cost {
-            let number = left.number;
             return Split {
                 cost: cost,
-                left: number,
+                left: left,
             };
         }
     }

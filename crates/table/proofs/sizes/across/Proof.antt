@@ -2,7 +2,7 @@
 use native.Mathlib.Omega.{arith}
 use mathlib.Core.Path.{sym}
 use Rattle.relations.proofs.Lowest.{rest-lt}
-use Rattle.table.proofs.Products.{Taken, taken-first, taken-next, taken-place, taken-last}
+use Rattle.table.proofs.Products.{Taken, taken-first, taken-next, taken-each, taken-last}
 use Rattle.table.proofs.sizes.across.Statement.{statement}
 use Rattle.table.proofs.sizes.across.Tie as tie
 
@@ -23,7 +23,7 @@ divisor-requires c κs =
     let f = c .before .before .before .before .before in
     let at = c .before .before .before .loop in
     rw (c .lowest .ensures)
-    (taken-place (f .args .divisors .now) (f .args .r) (f .args .others .number) _ (at .product) (at .left .number) (f .pre .0) (omega arith) (at .inv))
+    (taken-each (f .args .divisors .now) (f .args .r) (f .args .others .number) _ (at .product) (at .left .number) (f .pre .0) (omega arith) (at .inv))
 
 loop-holds : tie.Need-loop-holds Inv-loop μ-loop
 loop-holds c = taken-first _ _ _

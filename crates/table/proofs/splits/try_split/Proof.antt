@@ -38,18 +38,16 @@ returns-3 c = λ fig lefts room o. sym (better-stays _ _ _ (omega (arith, c .bef
 add-cost : tie.Need-add-cost
 add-cost c =
     let below = c .before .before .before in
-    let f = below .before .before .before .before .before .before .before .before .before in
+    let f = below .before .before .before .before .before .before .before in
     let known = c .before .shared-slice-known6 .given in
-    let h = split-bounded (f .args .model) (getD (f .args .sizes .now) (f .args .left .number) 0) (getD (f .args .sizes .now) (f .args .right .number) 0)
-    (known (f .args .left .number) .fits) (known (f .args .right .number) .fits) in
+    let h = split-bounded (f .args .model) (getD (f .args .sizes .now) (f .args .left) 0) (getD (f .args .sizes .now) (f .args .right) 0)
+    (known (f .args .left) .fits) (known (f .args .right) .fits) in
     record { fits = omega (arith, c .split-part .ensures, below .if1 .taken) }
 
 pub try-split-spec : {M : Type 1} → statement M
 try-split-spec =
     tie.close
     (tie.spec
-    (λ c. search needs)
-    (λ c. search needs)
     (λ c. search needs)
     (λ c. search needs)
     (λ c. search needs)
