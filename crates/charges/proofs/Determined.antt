@@ -6,8 +6,6 @@ use Rattle.charges.specs.Charges.{Answer, answer}
 use Rattle.charges.specs.declared.Charged.{Charged}
 use Rattle.charges.specs.declared.Charged.the-variants.{At, UnknownModel}
 use Rattle.charges.proofs.charge.Reads as Charge
-use Rattle.charges.proofs.result_part.Reads as ResultPart
-use Rattle.charges.proofs.split_part.Reads as SplitPart
 use Rattle.charges.proofs.up.Reads as Up
 use Rattle.charges.proofs.w.Reads as W
 
@@ -20,12 +18,6 @@ answer-tells UnknownModel UnknownModel e = refl
 
 charge-determined : Determined Charge.Post
 charge-determined k a x r q p s = answer-tells r q (p ∙ sym s)
-
-result-part-determined : Determined ResultPart.Post
-result-part-determined k a x r q p s = p ∙ sym s
-
-split-part-determined : Determined SplitPart.Post
-split-part-determined k a x r q p s = p ∙ sym s
 
 w-determined : Determined W.Post
 w-determined k a x r q p s = p ∙ sym s

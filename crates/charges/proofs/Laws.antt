@@ -1,14 +1,12 @@
--- What other crates need of the charges: they fit, both sides count alike, and the model alone decides a refusal.
-use Prim.Native.Nat.{ℕ, zero, suc, _+_, _*_, _^_, _≤_, _<_, min}
-use native.Mathlib.Nat.{add-comm, mul-comm, min-comm, lt-of-le-of-lt, mul-le-mul-left}
+-- What other crates need of the charges: they fit, rise with the sizes, count both sides alike, and the model alone decides a refusal.
+use Prim.Native.Nat.{ℕ, zero, suc, _+_, _*_, _^_, _≤_, _<_, min, zero-le}
+use native.Mathlib.Nat.{add-comm, mul-comm, min-comm, lt-of-le-of-lt, mul-le-mul, mul-le-mul-left}
 use native.Mathlib.Omega.{arith}
-use mathlib.Core.Logic.{_≢_}
 use mathlib.Core.Path.{_≡_, refl}
 use Rattle.numbers.proofs.Products.{product-fits}
 use Rattle.charges.specs.Charges.{log2, w, sortMerge, diskLoops, priced, charge}
-use Rattle.charges.specs.Parts.{diskResult, diskSplit, resultPart, splitPart}
-use Rattle.charges.proofs.Log.{log-leading}
-use Rattle.charges.proofs.Rounding.{up-near}
+use Rattle.charges.proofs.Log.{log-leading, log-rises}
+use Rattle.charges.proofs.Rounding.{up-near, up-rises}
 
 -- A size has at most 32 binary digits, so sorting it costs at most 32 times the size.
 pub w-bounded : (x : ℕ) → x < 2 ^ 32 → w x < 2 ^ 37
@@ -26,13 +24,25 @@ charge-bounded (suc (suc zero)) a b o ha hb ho =
     omega (arith, product-fits 32 32 a b ha hb, up-near o 10, up-near (a * b) 9900, up-near (min a b) 10)
 charge-bounded (suc (suc (suc model))) a b o ha hb ho = omega arith
 
--- The two parts of a charge together. A search that leaves out the first, where every split pays it, finds the same split.
-pub charge-parts : (model a b o : ℕ) → resultPart model o + splitPart model a b ≡ charge model a b o
-unfolding charge priced resultPart splitPart diskLoops diskResult diskSplit
-charge-parts zero a b o = omega arith
-charge-parts (suc zero) a b o = omega arith
-charge-parts (suc (suc zero)) a b o = omega arith
-charge-parts (suc (suc (suc model))) a b o = refl
+-- No charge falls when a size rises.
+pub w-rises : (x y : ℕ) → x ≤ y → w x ≤ w y
+unfolding w
+w-rises x y h = let more : 1 + log2 x ≤ 1 + log2 y = omega (arith, log-rises x y h) in mul-le-mul h more
+
+pub charge-rises : (model a b o a' b' o' : ℕ) → a ≤ a' → b ≤ b' → o ≤ o' → charge model a b o ≤ charge model a' b' o'
+unfolding charge priced sortMerge diskLoops
+charge-rises zero a b o a' b' o' ha hb ho = ho
+charge-rises (suc zero) a b o a' b' o' ha hb ho = omega (arith, w-rises a a' ha, w-rises b b' hb)
+charge-rises (suc (suc zero)) a b o a' b' o' ha hb ho =
+    let smaller : min a b ≤ min a' b' = omega arith in
+    let result = up-rises o o' 10 (omega arith) ho in
+    let pairs = up-rises (a * b) (a' * b') 9900 (omega arith) (mul-le-mul ha hb) in
+    omega (arith, result, pairs, up-rises (min a b) (min a' b') 10 (omega arith) smaller)
+charge-rises (suc (suc (suc model))) a b o a' b' o' ha hb ho = omega arith
+
+-- So every split into size o pays at least what empty parts would. A search that leaves it out finds the same split.
+pub charge-least : (model a b o : ℕ) → charge model 0 0 o ≤ charge model a b o
+charge-least model a b o = charge-rises model 0 0 o a b o zero-le zero-le (omega arith)
 
 -- A split and its mirror are charged the same.
 pub charge-symmetric : (model a b o : ℕ) → charge model a b o ≡ charge model b a o
@@ -41,22 +51,6 @@ charge-symmetric zero a b o = refl
 charge-symmetric (suc zero) a b o = add-comm (w a) (w b)
 charge-symmetric (suc (suc zero)) a b o = rw (mul-comm a b, min-comm a b)
 charge-symmetric (suc (suc (suc model))) a b o = refl
-
--- So it is with the part that goes by the split.
-module _ (model a b : ℕ) where
-  pub split-bounded : a < 2 ^ 32 → b < 2 ^ 32 → splitPart model a b < 2 ^ 51
-  split-bounded ha hb = omega (arith, charge-parts model a b 0, charge-bounded model a b 0 ha hb (omega arith))
-
-  pub split-symmetric : splitPart model a b ≡ splitPart model b a
-  split-symmetric = omega (arith, charge-parts model a b 0, charge-parts model b a 0, charge-symmetric model a b 0)
-
--- What is neither model 1 nor 2 charges nothing for it.
-pub split-free : (model a b : ℕ) → model ≢ 1 → model ≢ 2 → splitPart model a b ≡ 0
-unfolding splitPart
-split-free zero a b h g = refl
-split-free (suc zero) a b h g = absurd (h refl)
-split-free (suc (suc zero)) a b h g = absurd (g refl)
-split-free (suc (suc (suc model))) a b h g = refl
 
 -- "The model is a number from 0 to 2": each of these is answered with 0, done ..
 pub known : (model a b o : ℕ) → model < 3 → priced model a b o .number ≡ 0

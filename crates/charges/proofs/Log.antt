@@ -1,5 +1,5 @@
 -- The logarithm: what its definition means, and why counting leading zeros gives it.
-use Prim.Native.Nat.{ℕ, zero, suc, _+_, _*_, _/_, _^_, _≤_, _<_}
+use Prim.Native.Nat.{ℕ, zero, suc, _+_, _*_, _/_, _^_, _≤_, _<_, zero-le}
 use native.Mathlib.Nat.{le-antisymm, le-of-suc-le-suc, le-refl, lt-of-not-le}
 use native.Mathlib.Omega.{arith}
 use mathlib.Core.Path.{_≡_}
@@ -34,6 +34,12 @@ exponents x i j l h = le-of-suc-le-suc (lt-of-not-le (λ (q : suc j ≤ i). omeg
 -- .. and there is no other number that it could mean.
 pub log-unique : (x j k : ℕ) → WholeLog x j → WholeLog x k → j ≡ k
 log-unique x j k p q = le-antisymm (exponents x j k (p .0) (q .1)) (exponents x k j (q .0) (p .1))
+
+-- It never falls when the number rises.
+pub log-rises : (x y : ℕ) → x ≤ y → log2 x ≤ log2 y
+unfolding log2 halvings
+log-rises zero y h = zero-le
+log-rises (suc x) y h = exponents y (log2 (suc x)) (log2 y) (omega (arith, log-is (suc x) (omega arith) .0)) (log-is y (omega arith) .1)
 
 last-set : (x : ℕ) → bitOr x 1 ≡ x / 2 * 2 + 1
 last-set x = omega (arith, or-add-and x 1, and-mask x 1)

@@ -61,3 +61,7 @@ module _ (x d : ℕ) (some : 0 < d) where
       part p =
           let next : (x / d + 1) * d ≡ x / d * d + d = rw add-mul (omega arith) in
           told (x / d + 1) (x % d - 1) (omega (arith, div-add-mod' x d)) (omega (arith, mod-lt x some)) ∙ up-part x d p
+
+-- It never falls when x rises.
+pub up-rises : (x y d : ℕ) → 0 < d → x ≤ y → up x d ≤ up y d
+up-rises x y d some h = up-least x d some (up y d) (omega (arith, up-enough y d some))

@@ -1,3 +1,2 @@
 -- What a reader must believe of the charges.
 pub mod Charges
-pub mod Parts

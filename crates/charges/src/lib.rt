@@ -4,7 +4,6 @@ ghost use Prim.Native.Nat.{_+_, _^_, _<_, _≤_, min};
 use numbers::product;
 use numbers::wide;
 ghost use Rattle.charges.specs.Charges.{up, log2, w, sortMerge, diskLoops, priced, answer};
-ghost use Rattle.charges.specs.Parts.{diskResult, diskSplit, resultPart, splitPart};
 
 // The charge of a join, or the refusal of a model that there is not.
 pub enum Charged {
@@ -12,7 +11,7 @@ pub enum Charged {
     UnknownModel,
 }
 
-// The charge under `model` of joining sizes a and b into size o. This is the list of the models; the parts below follow it.
+// The charge under `model` of joining sizes a and b into size o. This is the one list of the models.
 pub fn charge(model: u32, a: u32, b: u32, o: u32) -> Charged
     ensures { λ r. ⌜ answer r ≡ priced model a b o ⌝ }
 {
@@ -21,32 +20,6 @@ pub fn charge(model: u32, a: u32, b: u32, o: u32) -> Charged
         1 => Charged::At(sort_merge(a, b)),
         2 => Charged::At(disk_loops(a, b, o)),
         3..=4294967295 => Charged::UnknownModel,
-    }
-}
-
-// ---- a charge in two parts (document 002, section 3.2), so that a search works out the first only once; none for an unknown model
-
-// The part that every split into size o pays.
-pub fn result_part(model: u32, o: u32) -> u64
-    ensures { λ r. ⌜ r ≡ resultPart model o ⌝ }
-{
-    match model {
-        0 => wide(o),
-        1 => 0,
-        2 => disk_result(o),
-        3..=4294967295 => 0,
-    }
-}
-
-// The part that goes by the sizes a and b of the split.
-pub fn split_part(model: u32, a: u32, b: u32) -> u64
-    ensures { λ r. ⌜ r ≡ splitPart model a b ⌝ }
-{
-    match model {
-        0 => 0,
-        1 => sort_merge(a, b),
-        2 => disk_split(a, b),
-        3..=4294967295 => 0,
     }
 }
 
@@ -65,25 +38,14 @@ const BLOCK: u64 = 10;
 // "100 blocks of memory": a block read serves the pairs of its 10 rows with the 10 of each of 99 blocks held.
 const PAIRS: u64 = 9900;
 
-// Model 2.
+// Model 2: what is written and read back of the result, and what is read of the two parts.
 fn disk_loops(a: u32, b: u32, o: u32) -> u64
     ensures { λ r. ⌜ r ≡ diskLoops a b o ⌝ }
 {
-    disk_result(o) + disk_split(a, b)
-}
-
-// What is written and read back of the result.
-fn disk_result(o: u32) -> u64
-    ensures { λ r. ⌜ r ≡ diskResult o ⌝ }
-{
-    2 * up(wide(o), BLOCK)
-}
-
-// What is read of the two parts.
-fn disk_split(a: u32, b: u32) -> u64
-    ensures { λ r. ⌜ r ≡ diskSplit a b ⌝ }
-{
-    quick_up(product(a, b), PAIRS) + quick_up(wide(least(a, b)), BLOCK)
+    let result = 2 * quick_up(wide(o), BLOCK);
+    let pairs = quick_up(product(a, b), PAIRS);
+    let smaller = quick_up(wide(least(a, b)), BLOCK);
+    result + pairs + smaller
 }
 
 // The work of sorting x rows.

@@ -4,6 +4,5 @@ pub mod Parts
 pub mod Named
 pub mod Lowest
 pub mod Splits
-pub mod Twos
 pub mod Places
 mod Determined

@@ -43,9 +43,6 @@ weight-part k S m j n = subst (λ (x : ℕ). mem x S ≡ true) (sym (mem-alone j
 
 -- ---- sets apart, and their sum
 
-pub apart-sub : (A B C : ℕ) → Apart A B → Part C B → Apart A C
-apart-sub A B C h g k a c = h k a (g k c)
-
 apart-common : (A B : ℕ) → Apart A B → bitAnd A B ≡ 0
 apart-common A B h = members-same (bitAnd A B) 0 (λ k. mem-common k A B ∙ is-false (mem k A && mem k B) (none k) ∙ sym (mem-empty k))
   where
@@ -152,14 +149,6 @@ part-other L S h k m = first-true (mem k S) (not (mem k L)) (sym (mem-other k S 
 
 pub part-apart : (L S : ℕ) → Part L S → Apart L (S - L)
 part-apart L S h k l m = without-apart S L k (ap (mem k) (without-part S L h) ∙ m) l
-
--- A part of what is left may be added to the first part.
-pub parts-sum : (A C S : ℕ) → Part A S → Part C (S - A) → Part (A + C) S
-parts-sum A C S h g k m = by (in-sum k A C (apart-sub A (S - A) C (part-apart A S h) g) m)
-  where
-    by : (mem k A ≡ true) ⊎ (mem k C ≡ true) → mem k S ≡ true
-    by (inl a) = h k a
-    by (inr c) = part-other A S h k (g k c)
 
 -- Code: less what the two have in common.
 pub without-common : (S L : ℕ) → S - bitAnd S L ≡ without S L

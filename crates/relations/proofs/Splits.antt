@@ -2,7 +2,7 @@
 -- of S that is neither empty nor S once, in rising order, and ends at S (`visits-lefts`).
 use Prim.Native.Nat.{ℕ, zero, suc, _+_, _-_, _*_, _/_, _%_, _^_, _≤_, _<_, zero-le}
 use native.Mathlib.Decide.{le-ind, ℕ-discrete}
-use native.Mathlib.Nat.{add-mod-right, div-add-mod', eq-or-lt-of-le, mod-add-mod, mod-eq-of-lt, mul-assoc, pow-suc}
+use native.Mathlib.Nat.{add-mod-right, div-add-mod', eq-or-lt-of-le, eq-zero-or-pos, mod-add-mod, mod-eq-of-lt, mul-assoc, pow-suc}
 use native.Mathlib.Omega.{arith}
 use mathlib.Core.Bool.{Bool, true, false, cond, _&&_}
 use mathlib.Core.List.{List, [], _∷_, _++_, append-assoc, append-nil, List·Memᴰ, List·Memᴰ·head, List·Memᴰ·append-cases, List·Memᴰ·eq-of-singleton, List·Memᴰ·not-nil, List·Memᴰ·tail, Memᴰ·append-left, Memᴰ·append-right}
@@ -12,10 +12,11 @@ use lib.Arith.{lt-one}
 use lib.Bits.{bitAnd, and-step}
 use lib.Dec.{eqb, leb}
 use borrow.Author.Tests.{eq-eqb, ne-eqb, le-leb, leb-true}
-use Rattle.relations.specs.Sets.{inside, Part}
+use Rattle.relations.specs.Sets.{mem, inside, Part, lowest, rest}
 use Rattle.relations.specs.Splits.{leftsTo, lefts, wrappedStep, Next, visits}
 use Rattle.numbers.proofs.Tests.{both, first-true, second-true, is-false}
-use Rattle.relations.proofs.Parts.{inside-part, part-inside, part-halves, halves-part, part-le, part-none}
+use Rattle.relations.proofs.Parts.{inside-part, part-inside, part-halves, halves-part, part-le, part-none, part-other, part-apart}
+use Rattle.relations.proofs.Lowest.{lowest-mem, rest-part, rest-lt}
 
 -- ---- one step, digit by digit
 
@@ -110,14 +111,14 @@ next-unique S L M N p m n = by (eq-or-lt-of-le (part-le L S p))
 -- ---- the left parts as a list
 
 -- M is a left part: the test of `leftsTo`, and the facts.
-left-true : (S M : ℕ) → 0 < M → Part M S → leb 1 M && inside M S ≡ true
+pub left-true : (S M : ℕ) → 0 < M → Part M S → leb 1 M && inside M S ≡ true
 left-true S M h p = both (leb 1 M) (inside M S) (le-leb 1 M h) (part-inside M S p)
 
 left-is : (S M : ℕ) → leb 1 M && inside M S ≡ true → (0 < M) × Part M S
 left-is S M h = (leb-true 1 M (first-true (leb 1 M) (inside M S) h), inside-part M S (second-true (leb 1 M) (inside M S) h))
 
 -- One number more.
-one-more : (S M : ℕ) (t : Bool) → leb 1 M && inside M S ≡ t → leftsTo S (suc M) ≡ leftsTo S M ++ cond t (M ∷ []) []
+pub one-more : (S M : ℕ) (t : Bool) → leb 1 M && inside M S ≡ t → leftsTo S (suc M) ≡ leftsTo S M ++ cond t (M ∷ []) []
 unfolding leftsTo
 one-more S M t e = ap (λ (x : Bool). leftsTo S M ++ cond x (M ∷ []) []) e
 
@@ -225,3 +226,21 @@ lefts-rising S (suc k) = by (leb 1 k && inside k S) (lefts-rising S k)
     by : (t : Bool) → Rising (leftsTo S k) → Rising (leftsTo S k ++ cond t (k ∷ []) [])
     by true r = rising-snoc (leftsTo S k) k r (λ y m. lefts-only S k y m .0)
     by false r = subst Rising (sym (append-nil (leftsTo S k))) r
+
+-- ---- the lower half
+
+-- No part but the empty set is what is left without it ..
+no-middle : (S L : ℕ) → 0 < L → Part L S → L ≡ S - L → ⊥
+no-middle S L some p e =
+    let m = lowest-mem L some in
+    part-apart L S p (lowest L) m (ap (λ (x : ℕ). mem (lowest L) x) (sym e) ∙ m)
+
+-- .. so from the lower half of a set of two or more the step does not come to the set itself: the other part of the split lies between.
+pub next-below : (S L N : ℕ) → 0 < rest S → Part L S → L + L ≤ S → Next S L N → N < S
+next-below S L N more p low n = by (eq-zero-or-pos L)
+  where
+    by : (L ≡ 0) ⊎ (0 < L) → N < S
+    by (inl e) = omega (arith, n .least (rest S) (rest-part S) (omega arith), rest-lt S (omega (arith, part-le (rest S) S (rest-part S))))
+    by (inr some) =
+        let apart : L < S - L = omega (arith, no-middle S L some p) in
+        omega (arith, n .least (S - L) (part-other L S p) apart)

@@ -1,25 +1,25 @@
 -- What every split of a set pays is set aside in the search for the best, and put back on what is found (document 002, section 3.2).
-use Prim.Native.Nat.{ℕ, _+_, _-_, _<_, _≤_, min}
+use Prim.Native.Nat.{ℕ, _+_, _-_, _<_, _≤_}
 use native.Mathlib.Decide.{decLe}
 use native.Mathlib.Nat.{le-of-eq}
 use native.Mathlib.Omega.{arith}
 use mathlib.Core.Bool.{true}
-use mathlib.Core.Logic.{inl, inr}
-use mathlib.Core.Path.{_≡_, sym}
-use Rattle.charges.specs.Parts.{resultPart}
-use Rattle.charges.proofs.Laws.{charge-parts}
+use mathlib.Core.Logic.{_⊎_, inl, inr}
+use mathlib.Core.Path.{_≡_, sym, ap, _∙_}
+use Rattle.charges.specs.Charges.{charge}
+use Rattle.charges.proofs.Laws.{charge-least}
 use Rattle.table.specs.Figures.{Figures}
 use Rattle.table.specs.Tables.{Table, rowAt}
 use Rattle.table.specs.Rule.{NONE, jobFor, bestTo, splits, joinCost, price}
-use Rattle.table.specs.Inner.{splitJob}
+use Rattle.table.specs.Inner.{under, splitJob}
 use Rattle.table.specs.declared.rows.Row.{Row}
 use Rattle.table.specs.declared.splits.Split.{Split}
 use Rattle.table.proofs.Reasoning.{by-test}
-use Rattle.table.proofs.Best.{best-start, Above, Aside, best-aside}
+use Rattle.table.proofs.Best.{none, best-none, Above, Aside, best-aside}
 use Rattle.table.proofs.Rules.{price-none}
-use Rattle.table.proofs.Search.{Prices, split-price}
+use Rattle.table.proofs.Search.{Prices, split-price, each-price, search-found, search-none}
 
-module _ (model limit o paid : ℕ) (fig : Figures) (T : Table) (S : ℕ) (low : limit < NONE) (is-paid : paid ≡ resultPart model o) where
+module _ (model limit o paid : ℕ) (fig : Figures) (T : Table) (S : ℕ) (low : limit < NONE) (is-paid : paid ≡ charge model 0 0 o) where
   abbrev whole : ℕ → ℕ
   whole = price (jobFor model limit) fig T S o
 
@@ -28,11 +28,11 @@ module _ (model limit o paid : ℕ) (fig : Figures) (T : Table) (S : ℕ) (low :
 
   parted : (a b : Row) → joinCost (splitJob model (limit - paid)) fig a b o + paid ≡ joinCost (jobFor model limit) fig a b o
   unfolding joinCost
-  parted a b = omega (arith, is-paid, charge-parts model (a .size) (b .size) o)
+  parted a b = omega (arith, is-paid, charge-least model (a .size) (b .size) o)
 
   -- Where that alone is over the limit no split is usable.
-  pub none-usable : limit < paid → record { cost = NONE; left = 0 } ≡ bestTo whole S
-  none-usable h = sym (best-start whole S (λ L _. le-of-eq (sym (over L))))
+  pub none-usable : limit < paid → none ≡ bestTo whole S
+  none-usable h = sym (best-none whole S (λ L. le-of-eq (sym (over L))))
     where
       over : (L : ℕ) → whole L ≡ NONE
       over L =
@@ -54,13 +54,30 @@ module _ (model limit o paid : ℕ) (fig : Figures) (T : Table) (S : ℕ) (low :
             by _ _ (parted (rowAt T L) (rowAt T (S - L))) (split-price (splitJob model (limit - paid)) fig T S o L e)
             (split-price (jobFor model limit) fig T S o L e) (decLe _ limit)
 
-    -- What the search finds by the splits' own parts is none at all, and stays none, or the best less what is paid.
-    pub found : (b : Split) → b ≡ bestTo own S → record { cost = min NONE (b .cost + paid); left = b .left } ≡ bestTo whole S
-    found b e i = record { cost = back (aside .cost) i; left = sym (aside .left) i }
-      where
-        aside : Aside own whole paid each b (bestTo whole S)
-        aside = rw e (best-aside own whole paid each S)
+    -- What the search finds by what the splits pay of their own is the best less what is paid, or above the room, and then there is none.
+    module _ (b : Split) (e : b ≡ under (limit - paid + 1) (bestTo own S)) where
+      aside : Aside own whole paid each (bestTo own S) (bestTo whole S)
+      aside = best-aside own whole paid each S
 
-        back : Above paid (b .cost) (bestTo whole S .cost) → min NONE (b .cost + paid) ≡ bestTo whole S .cost
-        back (inl x) = omega (arith, x .0, x .1)
-        back (inr x) = omega (arith, x .0, x .1)
+      every : (L : ℕ) → (own L ≤ limit - paid) ⊎ (own L ≡ NONE)
+      every = each-price (splitJob model (limit - paid)) fig T S o
+
+      pub found : b .cost ≤ limit - paid → record { cost = b .cost + paid; left = b .left } ≡ bestTo whole S
+      found l i = record { cost = back (aside .cost) i; left = (ap (λ (x : Split). x .left) e ∙ sym (aside .left)) i }
+        where
+          best : b .cost ≡ bestTo own S .cost
+          best = ap (λ (x : Split). x .cost) (search-found own (limit - paid) every S b e l)
+
+          back : Above paid (bestTo own S .cost) (bestTo whole S .cost) → b .cost + paid ≡ bestTo whole S .cost
+          back (inl x) = absurd (omega (arith, best, x .0))
+          back (inr x) = omega (arith, best, x .0)
+
+      pub none-found : limit - paid < b .cost → none ≡ bestTo whole S
+      none-found l i = record { cost = back (aside .cost) i; left = sym (aside .left ∙ ap (λ (x : Split). x .left) gone) i }
+        where
+          gone : bestTo own S ≡ none
+          gone = search-none own (limit - paid) every S b e l
+
+          back : Above paid (bestTo own S .cost) (bestTo whole S .cost) → NONE ≡ bestTo whole S .cost
+          back (inl x) = sym (x .1)
+          back (inr x) = absurd (omega (arith, ap (λ (y : Split). y .cost) gone, x .0, x .1))

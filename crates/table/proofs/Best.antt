@@ -4,12 +4,17 @@ use native.Mathlib.Nat.{eq-or-lt-of-le, le-of-suc-le-suc}
 use native.Mathlib.Omega.{arith}
 use mathlib.Core.Path.{_≡_, refl, ap₂, _∙_}
 use mathlib.Core.Logic.{_⊎_, inl, inr}
+use mathlib.Core.List.{List, [], _∷_, _++_}
 use mathlib.Core.Bool.{Bool, true, false, cond}
 use lib.Dec.{ltb}
 use native.Mathlib.Decide.{decLe, le-ind}
 use borrow.Author.Tests.{ltb-true, ltb-false, lt-ltb, le-ltb}
 use Rattle.table.specs.Rule.{NONE, better, bestTo}
 use Rattle.table.specs.declared.splits.Split.{Split}
+
+-- Nothing is found.
+abbrev pub none : Split
+none = record { cost = NONE; left = 0 }
 
 -- ---- one more left part
 
@@ -101,17 +106,20 @@ best-stays price a b h dear = le-ind (λ (x : ℕ). x ≤ b → bestTo price x �
         let e = ih (omega arith) in
         better-stays price (bestTo price m) m (rw e (dear m g l)) ∙ e
 
--- So code that visits only the parts of S, where nothing else has a price, gives the same.
-pub best-skip : (price : ℕ → ℕ) (a b : ℕ) → a ≤ b → ((L : ℕ) → a ≤ L → L < b → NONE ≤ price L) → bestTo price b ≡ bestTo price a
-best-skip price a b h dear = best-stays price a b h (λ L g l. omega (arith, best price a .most, dear L g l))
+-- Where nothing has a price nothing is found.
+pub best-none : (price : ℕ → ℕ) (b : ℕ) → ((L : ℕ) → NONE ≤ price L) → bestTo price b ≡ none
+unfolding bestTo
+best-none price b dear = best-stays price 0 b (omega arith) (λ L _ _. dear L)
 
--- A turn of the loop over the left parts: after a, the next that can have a price below NONE is b.
-pub best-hop : (price : ℕ → ℕ) (a b : ℕ) → a < b → ((L : ℕ) → a < L → L < b → NONE ≤ price L) → bestTo price b ≡ better price (bestTo price a) a
-best-hop price a b h dear = best-skip price (suc a) b h dear ∙ unfold bestTo in refl
+-- The best after b of a list of left parts, tried in its order.
+unfoldable pub bestOf : (ℕ → ℕ) → Split → List ℕ → Split
+bestOf price b [] = b
+bestOf price b (L ∷ Ls) = bestOf price (better price b L) Ls
 
--- Before the first left part nothing is found.
-pub best-start : (price : ℕ → ℕ) (b : ℕ) → ((L : ℕ) → L < b → NONE ≤ price L) → bestTo price b ≡ record { cost = NONE; left = 0 }
-best-start price b dear = best-skip price 0 b (omega arith) (λ L _. dear L) ∙ unfold bestTo in refl
+pub best-last : (price : ℕ → ℕ) (b : Split) (Ls : List ℕ) (L : ℕ) → bestOf price b (Ls ++ (L ∷ [])) ≡ better price (bestOf price b Ls) L
+unfolding bestOf
+best-last price b [] L = refl
+best-last price b (M ∷ Ls) L = best-last price (better price b M) Ls L
 
 -- Prices that differ by c and by nothing else: the same split is the best, and its cost differs by c.
 abbrev pub Above : ℕ → ℕ → ℕ → Type 0

@@ -1,24 +1,25 @@
 -- The search for the best split. It keeps the cost to stay under, one above the limit at first (`Searched`), and finds what the row rule
 -- says. Over any price that is within the limit or NONE.
-use Prim.Native.Nat.{ℕ, _+_, _-_, _<_, _≤_, min}
+use Prim.Native.Nat.{ℕ, zero, suc, _+_, _-_, _<_, _≤_, min}
 use native.Mathlib.Decide.{decLe}
-use native.Mathlib.Nat.{eq-or-lt-of-le, le-of-eq}
 use native.Mathlib.Omega.{arith}
 use mathlib.Core.Logic.{_⊎_, inl, inr}
+use mathlib.Core.List.{append-nil}
 use mathlib.Core.Path.{_≡_, refl, sym, ap, _∙_}
-use mathlib.Core.Bool.{Bool, true, false, _&&_, cond}
+use mathlib.Core.Bool.{Bool, true, false, _&&_, cond, false≢true}
 use lib.Dec.{leb}
 use borrow.Author.Tests.{lt-leb}
-use Rattle.relations.specs.Sets.{weight, Part, lowest, rest}
-use Rattle.relations.specs.Splits.{Next}
+use Rattle.relations.specs.Sets.{Part, inside}
+use Rattle.relations.specs.Splits.{leftsTo, Next}
 use Rattle.relations.proofs.Parts.{part-none, part-le, part-other}
-use Rattle.relations.proofs.Twos.{with-lowest, after-with}
+use Rattle.relations.proofs.Splits.{left-true, one-more, lefts-first, lefts-next}
 use Rattle.table.specs.Figures.{Figures}
 use Rattle.table.specs.Tables.{Table, rowAt}
 use Rattle.table.specs.Rule.{NONE, Job, better, bestTo, splits, joinCost, within, price}
+use Rattle.table.specs.Inner.{under}
 use Rattle.table.specs.declared.splits.Split.{Split}
 use Rattle.table.proofs.Reasoning.{by-test}
-use Rattle.table.proofs.Best.{better-stays, better-new, best, best-stays, best-hop, best-start}
+use Rattle.table.proofs.Best.{none, better-stays, better-new, best, best-stays, bestOf, best-last}
 use Rattle.table.proofs.Rules.{is-split, Used, price-used, used-price, price-none}
 
 -- What a total t comes to under a limit: it is the price where it is within the limit, and there is none where it is not.
@@ -34,15 +35,14 @@ module _ (price : ℕ → ℕ) (limit : ℕ) where
     pub cost : b .cost ≡ min (bestTo price l .cost) (limit + 1)
     pub left : b .left ≡ bestTo price l .left
 
-  pub search-first : limit < NONE → (N : ℕ) → ((L : ℕ) → L < N → NONE ≤ price L) → Searched N (record { cost = limit + 1; left = 0 })
-  search-first low N dear =
-      let e = best-start price N dear in
-      record { cost = rw e (omega arith); left = rw e }
+  -- At first nothing is found.
+  pub search-first : limit < NONE → (N : ℕ) → bestTo price N ≡ none → Searched N (record { cost = limit + 1; left = 0 })
+  search-first low N e = record { cost = rw e (omega arith); left = rw e }
 
-  -- A further left part, of total t, and none of a price until N.
-  pub search-next : (l N t : ℕ) (b : Split) → l < N → ((L : ℕ) → l < L → L < N → NONE ≤ price L) → Prices limit t (price l)
-      → Searched l b → Searched N (better (λ _. t) b l)
-  search-next l N t b h dear pr s = by (decLe t limit)
+  -- A further left part, of total t, and no other until N.
+  pub search-next : (l N t : ℕ) (b : Split) → bestTo price N ≡ better price (bestTo price l) l → Prices limit t (price l) → Searched l b
+      → Searched N (better (λ _. t) b l)
+  search-next l N t b hop pr s = by (decLe t limit)
     where
       found : Split
       found = bestTo price l
@@ -50,13 +50,13 @@ module _ (price : ℕ → ℕ) (limit : ℕ) where
       -- Both stay, or both take the new one.
       stay : b .cost ≤ t → found .cost ≤ price l → Searched N (better (λ _. t) b l)
       stay x y =
-          let e = best-hop price l N h dear ∙ better-stays price found l y in
+          let e = hop ∙ better-stays price found l y in
           let f = better-stays (λ _. t) b l x in
           record { cost = rw (e, f) (s .cost); left = rw (e, f) (s .left) }
 
       take : t ≤ limit → t < b .cost → price l < found .cost → Searched N (better (λ _. t) b l)
       take g x y =
-          let e = best-hop price l N h dear ∙ better-new price found l y in
+          let e = hop ∙ better-new price found l y in
           let f = better-new (λ _. t) b l x in
           record { cost = rw (e, f) (omega (arith, pr .within g)); left = rw (e, f) }
 
@@ -69,32 +69,30 @@ module _ (price : ℕ → ℕ) (limit : ℕ) where
       by (no g) = stay (omega (arith, s .cost)) (omega (arith, pr .over (omega arith), best price l .most))
 
   -- What is found at the end: within the limit it is the best split, and above it there is none.
-  module _ (each : (L : ℕ) → (price L ≤ limit) ⊎ (price L ≡ NONE)) (k : ℕ) (b : Split) (s : Searched k b) where
-    pub search-found : b .cost ≤ limit → b ≡ bestTo price k
-    search-found h i = record { cost = same i; left = s .left i }
-      where
-        same : b .cost ≡ bestTo price k .cost
-        same = omega (arith, s .cost)
+  module _ (each : (L : ℕ) → (price L ≤ limit) ⊎ (price L ≡ NONE)) (k : ℕ) (b : Split) (s : b ≡ under (limit + 1) (bestTo price k)) where
+    abbrev cost-is : b .cost ≡ min (bestTo price k .cost) (limit + 1)
+    cost-is = ap (λ (x : Split). x .cost) s
 
-    pub search-none : limit < b .cost → record { cost = NONE; left = 0 } ≡ bestTo price k
-    search-none h i = record { cost = sym none i; left = sym (best price k .none none) i }
+    pub search-found : b .cost ≤ limit → b ≡ bestTo price k
+    search-found h = s ∙ (λ i. record { cost = same i; left = bestTo price k .left })
       where
+        same : min (bestTo price k .cost) (limit + 1) ≡ bestTo price k .cost
+        same = omega (arith, cost-is)
+
+    pub search-none : limit < b .cost → bestTo price k ≡ none
+    search-none h i = record { cost = dear i; left = best price k .none dear i }
+      where
+        by : {p : ℕ} → (p ≤ limit) ⊎ (p ≡ NONE) → limit < p → p < NONE → ⊥
+        by (inl x) m l = omega arith
+        by (inr x) m l = omega arith
+
         over : bestTo price k .cost < NONE → ⊥
         over l =
             let w = best price k .some l in
-            let m : limit < price (bestTo price k .left) = omega (arith, w .1, s .cost) in
-            by (each (bestTo price k .left)) m (w .1) l
-          where
-            by : {p : ℕ} → (p ≤ limit) ⊎ (p ≡ NONE) → limit < p → p ≡ bestTo price k .cost → bestTo price k .cost < NONE → ⊥
-            by (inl x) m e l = omega arith
-            by (inr x) m e l = omega arith
+            by (each (bestTo price k .left)) (omega (arith, w .1, cost-is)) (omega (arith, w .1))
 
-        none : bestTo price k .cost ≡ NONE
-        none = by (eq-or-lt-of-le (best price k .most))
-          where
-            by : (bestTo price k .cost ≡ NONE) ⊎ (bestTo price k .cost < NONE) → bestTo price k .cost ≡ NONE
-            by (inl e) = e
-            by (inr l) = absurd (over l)
+        dear : bestTo price k .cost ≡ NONE
+        dear = omega (arith, best price k .most, over)
 
   -- ---- along the left parts of S, where nothing else has a price
 
@@ -104,10 +102,9 @@ module _ (price : ℕ → ℕ) (limit : ℕ) where
     pub searched : Searched l b
 
   -- Past the middle of S there are only mirrors of splits that were tried, at the same price, and the first of equals stays.
-  pub visit-half : (S l : ℕ) (b : Split) → S < l + l → ((L : ℕ) → L < S → price L < NONE → price (S - L) ≡ price L) → Visited S l b → Searched S b
-  visit-half S l b h mirror v =
-      let e = best-stays price l S (part-le l S (v .part)) later in
-      record { cost = rw e (v .searched .cost); left = rw e (v .searched .left) }
+  pub visit-half : (S l : ℕ) (b : Split) → S < l + l → ((L : ℕ) → L < S → price L < NONE → price (S - L) ≡ price L) → Visited S l b
+      → b ≡ under (limit + 1) (bestTo price S)
+  visit-half S l b h mirror v i = record { cost = cost i; left = left i }
     where
       later : (L : ℕ) → l ≤ L → L < S → bestTo price l .cost ≤ price L
       later L g k = by (decLe NONE (price L))
@@ -116,46 +113,71 @@ module _ (price : ℕ → ℕ) (limit : ℕ) where
           by (yes x) = omega (arith, best price l .most)
           by (no x) = omega (arith, mirror L k (omega arith), best price l .least (S - L) (omega arith))
 
+      e : bestTo price S ≡ bestTo price l
+      e = best-stays price l S (part-le l S (v .part)) later
+
+      cost : b .cost ≡ min (bestTo price S .cost) (limit + 1)
+      cost = rw e (v .searched .cost)
+
+      left : b .left ≡ bestTo price S .left
+      left = rw e (v .searched .left)
+
   module _ (S : ℕ) (quiet : (L : ℕ) → (0 < L → Part L S → ⊥) → price L ≡ NONE) where
+    -- Below k the best is the best of the left parts below k, tried one after another.
+    pub best-lefts : (k : ℕ) → bestTo price k ≡ bestOf price none (leftsTo S k)
+    unfolding bestTo leftsTo bestOf
+    best-lefts zero = refl
+    best-lefts (suc k) = by-test (leb 1 k && inside k S) (λ e. is-left e (best-lefts k)) (λ e. no-left e ∙ best-lefts k ∙ ap (bestOf price none) (sym (one-more S k false e ∙ append-nil (leftsTo S k))))
+      where
+        is-left : leb 1 k && inside k S ≡ true → bestTo price k ≡ bestOf price none (leftsTo S k)
+            → better price (bestTo price k) k ≡ bestOf price none (leftsTo S (suc k))
+        is-left e ih =
+            ap (λ (b : Split). better price b k) ih ∙ sym (best-last price none (leftsTo S k) k)
+            ∙ ap (bestOf price none) (sym (one-more S k true e))
+
+        no-left : leb 1 k && inside k S ≡ false → better price (bestTo price k) k ≡ bestTo price k
+        no-left e =
+            let p = quiet k (λ some part. false≢true (sym e ∙ left-true S k some part)) in
+            better-stays price (bestTo price k) k (omega (arith, best price k .most))
+
+    -- So the step on S, which visits the left parts one by one, misses nothing.
     pub visit-first : limit < NONE → (N : ℕ) → Next S 0 N → Visited S N (record { cost = limit + 1; left = 0 })
     visit-first low N next = record {
       part = next .part;
-      searched = search-first low N (λ L l. le-of-eq (sym (quiet L (λ p q. omega (arith, next .least L q p)))));
+      searched = search-first low N (best-lefts N ∙ ap (bestOf price none) (lefts-first S N next) ∙ unfold bestOf in refl);
     }
 
-    pub visit-next : (l N t : ℕ) (b : Split) → l < S → Next S l N → Prices limit t (price l) → Visited S l b → Visited S N (better (λ _. t) b l)
-    visit-next l N t b h next pr v = record {
+    pub visit-next : (l N t : ℕ) (b b₂ : Split) → 0 < l → l < S → Next S l N → Prices limit t (price l) → b₂ ≡ better (λ _. t) b l → Visited S l b
+        → Visited S N b₂
+    visit-next l N t b b₂ some below next pr e v = record {
       part = next .part;
-      searched = search-next l N t b (next .above h) (λ L g k. le-of-eq (sym (quiet L (λ p q. omega (arith, next .least L q g))))) pr (v .searched);
+      searched = rw e (search-next l N t b hop pr (v .searched));
     }
+      where
+        hop : bestTo price N ≡ better price (bestTo price l) l
+        hop =
+            best-lefts N
+            ∙ ap (bestOf price none) (lefts-next S l N some (v .part) below next)
+            ∙ best-last price none (leftsTo S l) l
+            ∙ ap (λ (x : Split). better price x l) (sym (best-lefts l))
 
-    -- ---- two at a time
+    -- ---- two a turn
 
-    -- The search has tried the part l of the rest of S, in the lower half: the same with the lowest relation is next.
-    pub record Paired (l : ℕ) (b : Split) : Type 0 where
-      pub visited : Visited S (l + weight (lowest S)) b
-      pub rest : Part l (rest S)
+    -- All left parts up to l are tried, and l is in the lower half: the one that comes after it is next.
+    pub record Tried (l : ℕ) (b : Split) : Type 0 where
+      pub part : Part l S
       pub low : l + l ≤ S
+      pub next : (N : ℕ) → Next S l N → Visited S N b
 
-    module _ (some : 0 < S) where
-      -- At first nothing is tried: after the empty set comes the lowest relation alone.
-      pub pair-first : limit < NONE → Paired 0 (record { cost = limit + 1; left = 0 })
-      pair-first low = record {
-        visited = visit-first low _ (with-lowest S some 0 (part-none (rest S)));
-        rest = part-none (rest S);
-        low = omega arith;
-      }
+    pub tried-none : limit < NONE → Tried 0 (record { cost = limit + 1; left = 0 })
+    tried-none low = record { part = part-none S; low = omega arith; next = visit-first low }
 
-      -- The part with the lowest relation, w, of total u: then comes the next part of the rest ..
-      pub pair-with : (l N u w : ℕ) (b b₂ : Split) → w ≡ l + weight (lowest S) → w < S → Next (rest S) l N → Prices limit u (price w)
-          → b₂ ≡ better (λ _. u) b w → Paired l b → Visited S N b₂
-      pair-with l N u w b b₂ e h next pr x v =
-          rw x (visit-next w N u b h (rw e (after-with S some l (v .rest) N next)) pr (rw e (v .visited)))
-
-      -- .. of total t, where it is in the lower half.
-      pub pair-part : (N t : ℕ) (b b₂ : Split) → N + N ≤ S → Part N (rest S) → Prices limit t (price N) → b₂ ≡ better (λ _. t) b N
-          → Visited S N b → Paired N b₂
-      pair-part N t b b₂ low p pr x v = rw x (record { visited = visit-next N _ t b (omega arith) (with-lowest S some N p) pr v; rest = p; low = low })
+    pub tried-next : (l t : ℕ) (b b₂ : Split) → 0 < l → l + l ≤ S → Prices limit t (price l) → b₂ ≡ better (λ _. t) b l → Visited S l b → Tried l b₂
+    tried-next l t b b₂ some low pr e v = record {
+      part = v .part;
+      low = low;
+      next = λ N next. visit-next l N t b b₂ some (omega arith) next pr e v;
+    }
 
 -- ---- the prices of the row rule
 
@@ -179,8 +201,8 @@ module _ (job : Job) (fig : Figures) (T : Table) (S o L : ℕ) where
       ends false x y = refl
 
   -- So it is with the right part r, however it was found.
-  pub tried : (r : ℕ) → r ≡ S - L → splits job fig S L ≡ true → Prices (job .limit) (joinCost job fig (rowAt T L) (rowAt T r) o) (price job fig T S o L)
-  tried r e h = rw e (split-price h)
+  pub split-total : (r : ℕ) → r ≡ S - L → splits job fig S L ≡ true → Prices (job .limit) (joinCost job fig (rowAt T L) (rowAt T r) o) (price job fig T S o L)
+  split-total r e h = rw e (split-price h)
 
   -- What is no left part has no price.
   pub quiet-price : (0 < L → Part L S → ⊥) → price job fig T S o L ≡ NONE

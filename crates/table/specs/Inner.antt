@@ -1,15 +1,15 @@
 -- What the contracts of the inner functions speak of. No promise to a caller rests on it.
-use Prim.Native.Nat.{ℕ, _-_, _*_, _/_, _^_, _≤_}
+use Prim.Native.Nat.{ℕ, _-_, _*_, _/_, _^_, _≤_, min}
 use mathlib.Core.Bool.{Bool, _&&_}
 use mathlib.Core.Path.{_≡_}
 use lib.ListN.{length, getD}
 use Rattle.relations.specs.Sets.{MOST, inside}
-use Rattle.charges.specs.Charges.{priced}
-use Rattle.charges.specs.Parts.{splitPart}
+use Rattle.charges.specs.Charges.{priced, charge}
 use Rattle.table.specs.Figures.{Figures}
 use Rattle.table.specs.Tables.{Room}
 use Rattle.table.specs.Rule.{Job, bushy}
 use Rattle.table.specs.Results.{Call, numberOf}
+use Rattle.table.specs.declared.splits.Split.{Split}
 use Rattle.table.specs.declared.checks.Checked.{Checked}
 use Rattle.table.specs.declared.checks.Checked.the-variants.{Passed, Failed}
 
@@ -18,14 +18,21 @@ pub record Complete (fig : Figures) : Type 0 where
   pub pairs : length (fig .divisors) ≡ length (fig .counts) * (length (fig .counts) - 1) / 2
   pub positive : (k : ℕ) → 1 ≤ getD (fig .divisors) k 1
 
--- The product of up to fourteen divisors passes 64 bits, and so may the costs of two parts of a damaged table. The code holds them here,
--- which alters no size (proofs/Products, `up-held`) and is above every limit.
+-- The product of up to fourteen divisors passes 64 bits. The code holds it here, which alters no size (proofs/Products, `up-held`).
 abbrev pub HELD : ℕ
 HELD = 18446744073709551615
 
--- The part that a split pays of its own is all that the search charges, within the room that is left (document 002, section 3.2).
+-- What a split into size o pays of its own, beyond what every split pays at least: empty parts are charged no more than others (document
+-- 002, section 3.2). It is all that the search charges, within the room that is left.
+abbrev pub splitCharge : ℕ → ℕ → ℕ → ℕ → ℕ
+splitCharge model a b o = charge model a b o - charge model 0 0 o
+
 abbrev pub splitJob : ℕ → ℕ → Job
-splitJob model room = record { charge = λ a b o. splitPart model a b; profile = bushy; limit = room }
+splitJob model room = record { charge = splitCharge model; profile = bushy; limit = room }
+
+-- A split by its cost, held at one that is too high to be of use.
+abbrev pub under : ℕ → Split → Split
+under above b = record { cost = min (b .cost) above; left = b .left }
 
 -- S holds the sets a and b. They are the relations that an edit names, one by one, and both are empty for a fill.
 unfoldable pub holding : ℕ → ℕ → ℕ → Bool
