@@ -1,5 +1,5 @@
--- Comment lines at a place of the text: one is passed where it has its feed (`comment-passed`); from the first line that is none
--- (`no-comment`) or has no feed (`no-feed`) the judge goes on with the size line.
+-- Comment lines at a place of the text: one is passed where it has its feed (`comment-passed`), and refused where it has none (`no-feed`);
+-- from the first line that is no comment (`no-comment`, `no-line`) the judge goes on with the size line.
 use Prim.Native.Nat.{ℕ, suc, _+_, _-_, _≤_, _<_}
 use native.Mathlib.Omega.{arith}
 use mathlib.Core.Bool.{Bool, true, false, cond}
@@ -10,7 +10,7 @@ use lib.ListN.{length, take, drop, getD, length-drop, drop-of-length-le}
 use lib.Seq.{drop-cons, length-take-le}
 use borrow.Author.Tests.{eq-eqb, ne-eqb}
 use Rattle.figures.specs.Lines.{FEED, PERCENT, onto, split}
-use Rattle.figures.specs.Judge.{sizeLine, isComment, comments}
+use Rattle.figures.specs.Judge.{refused, onLine, sizeLine, isComment, comments}
 use Rattle.figures.specs.Inner.{upTo, linesAt}
 use Rattle.figures.proofs.Cutting.{some-piece, up-more, found, unfound}
 
@@ -45,8 +45,8 @@ module _ (text : List ℕ) (at : ℕ) where
   no-line l = rw (drop-of-length-le text l) (none-in at [] (λ e. omega arith))
 
   module _ (end : ℕ) (e : end ≡ at + upTo FEED (drop at text)) where
-    pub no-feed : length text ≤ end → comments at (linesAt text at) ≡ sizeLine at (linesAt text at)
-    unfolding comments
+    pub no-feed : length text ≤ end → comments at (linesAt text at) ≡ refused 11 at
+    unfolding comments sizeLine onLine
     no-feed l = rw (unfound FEED at end text e l)
 
     module _ (l : end < length text) (b : getD text at 0 ≡ PERCENT) where

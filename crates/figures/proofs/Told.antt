@@ -1,4 +1,5 @@
--- A line of three numbers at a place of the text: what the judge makes of it, and what its words, held, tell of its numbers.
+-- A line of three numbers at a place of the text: what the judge makes of it, and what its words, held, tell of its numbers;
+-- and a line that is refused.
 use Prim.Native.Nat.{ℕ, zero, suc, _+_, _-_, _≤_, _<_}
 use native.Mathlib.Omega.{arith}
 use mathlib.Core.Bool.{Bool, true, false, false≢true}
@@ -8,8 +9,12 @@ use lib.ListN.{length, take, drop, length-drop}
 use lib.Seq.{length-take-le}
 use borrow.Author.Tests.{lt-ltb, le-ltb}
 use Rattle.figures.specs.Lines.{FEED, Numbers, three, none}
-use Rattle.figures.specs.Judge.{Result, refused, onLine, LARGEST, tooLarge, withNumbers}
+use Rattle.figures.specs.Entries.{noFigures}
+use Rattle.figures.specs.Judge.{Result, numberOf, numberGiven, placeGiven, resultOf, refused, onLine, LARGEST, tooLarge, withNumbers}
 use Rattle.figures.specs.Inner.{upTo, held, wordsOf, linesAt, told}
+use Rattle.figures.specs.declared.Answer.{Answer}
+use Rattle.figures.specs.declared.Answer.the-variants.{Refused}
+use Rattle.figures.specs.declared.Reading.{Reading}
 use Rattle.figures.specs.declared.Refusal.{Refusal}
 use Rattle.figures.specs.declared.lines.Line.{Line}
 use Rattle.figures.specs.declared.lines.Line.the-variants as line
@@ -106,8 +111,16 @@ module _ {x : Numbers} {a b c : ℕ} (t : Tells x a b c) (at : ℕ) (next : ℕ 
       let r : t .third ≡ c = omega (arith, t .c-held) in
       rw (t .said, p, q, r, le-ltb LARGEST a h, le-ltb LARGEST b g, le-ltb LARGEST c f)
 
--- ---- the answer of a reader of lines
+-- ---- a refusal
 
--- A refusal tells nothing on which the judge could go on.
+-- It tells nothing on which the judge could go on;
 pub told-refused : (x : Line) (why : Refusal) (at : ℕ) (f g : ℕ → ℕ → ℕ → ℕ → Result) → x ≡ line.Refused why at → told x f ≡ told x g
 told-refused x why at f g e = ap (λ (y : Line). told y f) e ∙ sym (ap (λ (y : Line). told y g) e)
+
+-- and answered with no figures it is the judge's.
+pub unread :
+    {r : Reading} {a : Answer} {why : Refusal} {at : ℕ} →
+    r ≡ record { answer = a; figures = noFigures } →
+    a ≡ Refused why at →
+    resultOf r ≡ refused (numberOf why) at
+unread e d = ap resultOf e ∙ ap (λ (a : Answer). refused (numberGiven a) (placeGiven a)) d

@@ -9,7 +9,7 @@ use Rattle.numbers.proofs.Tests.{is-false}
 use Rattle.relations.specs.Sets.{MOST}
 use Rattle.figures.specs.Lines.{FEED, split}
 use Rattle.figures.specs.Entries.{Entry, entry, inTriangle, zeroDivisor, given, allCounted, figuresOf}
-use Rattle.figures.specs.Judge.{Result, accepted, refused, faulty, isEnd, entryLines}
+use Rattle.figures.specs.Judge.{Result, numberOf, accepted, refused, faulty, isEnd, entryLines}
 use Rattle.figures.specs.Inner.{linesAt, told, Going, Reads, withEntry, flag, allSeen}
 use Rattle.figures.specs.declared.Figures.{Figures}
 use Rattle.figures.specs.declared.Refusal.{Refusal}
@@ -57,8 +57,8 @@ module _ {text : List ℕ} {n m : ℕ} {seen : List (List Bool)} {figures : Figu
   judged-line = reads (onEntry n m (h .es) at) ∙ h .same
 
   -- A line that is refused is the answer.
-  pub line-refused : (go : ℕ → ℕ → ℕ → ℕ → Result) {why : Refusal} {start : ℕ} → x ≡ line.Refused why start → told x go ≡ w
-  line-refused go e = rw e (rw e at judged-line)
+  pub line-refused : {why : Refusal} {start : ℕ} → x ≡ line.Refused why start → refused (numberOf why) start ≡ w
+  line-refused e = rw e at judged-line
 
   -- An entry, of which the place is in the triangle.
   module _ {i j v next : ℕ} (e : x ≡ line.Numbers i j v next) (t : inTriangle n i j ≡ true) where

@@ -11,6 +11,8 @@ use Rattle.relations.specs.Sets.{MOST, isRelation}
 use Rattle.figures.specs.Lines.{FEED, split, isNumber, Numbers, three, none, numbersOf}
 use Rattle.figures.specs.Entries.{Entry, inTriangle}
 use Rattle.figures.specs.Judge.{Result, numberOf, refused, onLine, LARGEST, withNumbers}
+use Rattle.figures.specs.declared.Answer.{Answer}
+use Rattle.figures.specs.declared.Answer.the-variants.{Accepted, Refused}
 use Rattle.figures.specs.declared.Figures.{Figures}
 use Rattle.figures.specs.declared.lines.Line.{Line}
 use Rattle.figures.specs.declared.lines.Line.the-variants as line
@@ -48,11 +50,20 @@ linesAt text at = split FEED (drop at text)
 -- What a reader of lines answers, as the judge has it: it goes on, or the line is refused.
 abbrev pub passed : Heading → (ℕ → Result) → Result
 passed (heading.Passed next) go = go next
-passed heading.Refused go = refused 11 0
+passed (heading.Refused why at) go = refused (numberOf why) at
 
 abbrev pub told : Line → (ℕ → ℕ → ℕ → ℕ → Result) → Result
 told (line.Numbers a b c next) go = go a b c next
 told (line.Refused why at) go = refused (numberOf why) at
+
+-- The file's answer as far as the lines go that a reader took: accepted, or their refusal.
+abbrev pub headingAnswer : Heading → Answer
+headingAnswer (heading.Passed next) = Accepted
+headingAnswer (heading.Refused why at) = Refused why at
+
+abbrev pub lineAnswer : Line → Answer
+lineAnswer (line.Numbers a b c next) = Accepted
+lineAnswer (line.Refused why at) = Refused why at
 
 -- How the judge goes on after a line of numbers: with the numbers, the place after the line and the lines from there on.
 abbrev pub Going : Type 0

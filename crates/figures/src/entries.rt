@@ -10,9 +10,9 @@ use crate::Refusal;
 use crate::lines;
 use crate::lines::Line;
 ghost use Rattle.relations.specs.Sets.{MOST, isRelation};
-ghost use Rattle.figures.specs.Entries.{entry, inTriangle, zeroDivisor, figuresOf};
-ghost use Rattle.figures.specs.Judge.{resultOf, refused, numberOf, entryLines};
-ghost use Rattle.figures.specs.Inner.{linesAt, told, withEntry, allSeen};
+ghost use Rattle.figures.specs.Entries.{entry, inTriangle, zeroDivisor, figuresOf, noFigures};
+ghost use Rattle.figures.specs.Judge.{resultOf, entryLines};
+ghost use Rattle.figures.specs.Inner.{linesAt, withEntry, allSeen};
 
 // m entry lines from `start` on, and the end of the text. However many the size line claims, each turn takes bytes of the text, by which
 // the loop is shown to end; and since no place is taken twice, the 121st line is refused at the latest.
@@ -27,17 +27,17 @@ pub fn read_entries(text: &[u8], start: usize, n: u32, m: u32) -> Reading
     while k < m {
         let line = lines::entry_line(text, at, n);
         let Line::Numbers(i, j, v, next) = line else {
-            return refuse_line(line);
+            return without_figures(line.answer());
         };
         let row = (i - 1) as usize;
         let column = (j - 1) as usize;
         let twice = seen[row][column];
         let no_divisor = is_zero_divisor(i, j, v);
         if twice {
-            return refuse(Refusal::Twice, at);
+            return without_figures(Answer::Refused(Refusal::Twice, at));
         }
         if no_divisor {
-            return refuse(Refusal::ZeroDivisor, at);
+            return without_figures(Answer::Refused(Refusal::ZeroDivisor, at));
         }
         seen[row][column] = true;
         figures = with_entry(figures, i, j, v);
@@ -45,10 +45,10 @@ pub fn read_entries(text: &[u8], start: usize, n: u32, m: u32) -> Reading
         k += 1;
     }
     if at < text.len() {
-        return refuse(Refusal::Shape, at);
+        return without_figures(Answer::Refused(Refusal::Shape, at));
     }
     if !all_seen(seen, n) {
-        return refuse(Refusal::NoCount, at);
+        return without_figures(Answer::Refused(Refusal::NoCount, at));
     }
     Reading {
         answer: Answer::Accepted,
@@ -114,22 +114,12 @@ fn all_seen(seen: [[bool; 15]; 15], n: u32) -> bool
     true
 }
 
-// A line's refusal as the file's.
-pub fn refuse_line(line: Line) -> Reading
-    ensures { λ x. ⌜ resultOf x ≡ told line (λ i j v next. refused 11 0) ⌝ }
-{
-    let Line::Refused(why, at) = line else {
-        return refuse(Refusal::Shape, 0);
-    };
-    refuse(why, at)
-}
-
-// A refusal: every figure and n are 0.
-pub fn refuse(why: Refusal, at: usize) -> Reading
-    ensures { λ x. ⌜ resultOf x ≡ refused (numberOf why) at ⌝ }
+// The answer with no figures: every figure and n are 0.
+pub fn without_figures(answer: Answer) -> Reading
+    ensures { λ x. ⌜ x ≡ record { answer = answer; figures = noFigures } ⌝ }
 {
     Reading {
-        answer: Answer::Refused(why, at),
+        answer: answer,
         figures: Figures {
             n: 0,
             counts: [0; 15],

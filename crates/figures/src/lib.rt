@@ -72,12 +72,15 @@ pub fn read(text: &[u8]) -> Reading
 {
     let first = lines::first_line(text);
     let Heading::Passed(second) = first else {
-        return entries::refuse(Refusal::Shape, 0);
+        return entries::without_figures(first.answer());
     };
-    let at = lines::past_comments(text, second);
+    let comments = lines::past_comments(text, second);
+    let Heading::Passed(at) = comments else {
+        return entries::without_figures(comments.answer());
+    };
     let size = lines::size_line(text, at);
     let Line::Numbers(n, _, m, start) = size else {
-        return entries::refuse_line(size);
+        return entries::without_figures(size.answer());
     };
     entries::read_entries(text, start, n, m)
 }

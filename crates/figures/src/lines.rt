@@ -1,20 +1,33 @@
 // The readers of lines (document 01, "Figures file"). A reader is told where its line starts, and answers with the place after it, or with
-// the refusal and the start of the line. Of line 1 the start is known, and so is what it is refused with.
+// the refusal and the start of the line: "The answer carries the start of the offending line".
 ghost use mathlib.Core.Path.{_≡_};
 ghost use mathlib.Core.Bool.{not};
 ghost use mathlib.Core.List.{[]};
 ghost use lib.ListN.{length};
+use crate::Answer;
 use crate::Refusal;
 use crate::words;
 use crate::words::Words;
 ghost use Rattle.figures.specs.Entries.{inTriangle};
 ghost use Rattle.figures.specs.Judge.{faulty, entryLines, sizeLine, comments, judged};
-ghost use Rattle.figures.specs.Inner.{linesAt, passed, told, Reads, Onward, Sized, Inside};
+ghost use Rattle.figures.specs.Inner.{linesAt, passed, told, headingAnswer, lineAnswer, Reads, Onward, Sized, Inside};
 
-// Line 1: the place after it; or that it is not what it must be, which is a fault of shape at place 0.
+// Line 1, or the comments: the place after them; or why a line of them is refused, and its start.
 pub enum Heading {
     Passed(usize),
-    Refused,
+    Refused(Refusal, usize),
+}
+
+impl Heading {
+    // The file's answer as far as these lines go: accepted, or their refusal.
+    pub fn answer(self) -> Answer
+        ensures { λ x. ⌜ x ≡ headingAnswer self ⌝ }
+    {
+        match self {
+            Heading::Passed(_) => Answer::Accepted,
+            Heading::Refused(why, at) => Answer::Refused(why, at),
+        }
+    }
 }
 
 // A line of three numbers, and the place after it; or why it is refused, and its start.
@@ -23,40 +36,51 @@ pub enum Line {
     Refused(Refusal, usize),
 }
 
+impl Line {
+    // The same of this line.
+    pub fn answer(self) -> Answer
+        ensures { λ x. ⌜ x ≡ lineAnswer self ⌝ }
+    {
+        match self {
+            Line::Numbers(_, _, _, _) => Answer::Accepted,
+            Line::Refused(why, at) => Answer::Refused(why, at),
+        }
+    }
+}
+
 // Line 1 is exactly this.
 pub fn first_line(text: &[u8]) -> Heading
     ensures { λ x. ⌜ passed x (λ next. comments next (linesAt (now (text .entry)) next)) ≡ judged (now (text .entry)) ⌝ }
 {
     let end = words::find(text, b'\n', 0);
     if text.len() <= end {
-        return Heading::Refused;
+        return Heading::Refused(Refusal::Shape, 0);
     }
     if !words::same(
         &text[..end],
         b"%%MatrixMarket matrix coordinate integer symmetric",
     ) {
-        return Heading::Refused;
+        return Heading::Refused(Refusal::Shape, 0);
     }
     Heading::Passed(end + 1)
 }
 
-// The start of the first line from `at` on that is no comment. A comment without its feed is left to the reader of the size line, which
-// refuses every line without one.
-pub fn past_comments(text: &[u8], at: usize) -> usize
-    ensures { λ x. ⌜ sizeLine x (linesAt (now (text .entry)) x) ≡ comments at (linesAt (now (text .entry)) at) ⌝ }
+// The comments from `at` on, up to the start of the first line that is none. One without its feed is refused.
+pub fn past_comments(text: &[u8], at: usize) -> Heading
+    ensures { λ x. ⌜ passed x (λ next. sizeLine next (linesAt (now (text .entry)) next)) ≡ comments at (linesAt (now (text .entry)) at) ⌝ }
 {
     let mut start = at;
     while start < text.len() {
         if text[start] != b'%' {
-            return start;
+            return Heading::Passed(start);
         }
         let end = words::find(text, b'\n', start);
         if text.len() <= end {
-            return start;
+            return Heading::Refused(Refusal::Shape, start);
         }
         start = end + 1;
     }
-    start
+    Heading::Passed(start)
 }
 
 // The size line: n, n and the number of entry lines.

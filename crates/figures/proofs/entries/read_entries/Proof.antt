@@ -2,7 +2,7 @@ use Prim.Native.Nat.{ℕ, suc, _+_, _-_, _≤_, _<_}
 use native.Mathlib.Omega.{arith}
 use mathlib.Core.Bool.{true}
 use mathlib.Core.List.{List, []}
-use mathlib.Core.Path.{_≡_, sym, subst, _∙_}
+use mathlib.Core.Path.{_≡_, refl, sym, ap, subst, _∙_}
 use borrow.Author.Needs.{needs}
 use borrow.Author.Tests.{not-true, not-false}
 use lib.ListN.{length}
@@ -10,10 +10,11 @@ use Rattle.relations.specs.Sets.{MOST}
 use Rattle.relations.proofs.Named.{is-relation}
 use Rattle.figures.specs.Entries.{inTriangle}
 use Rattle.figures.specs.Judge.{Result, entryLines}
-use Rattle.figures.specs.Inner.{linesAt, Onward, Inside}
+use Rattle.figures.specs.Inner.{linesAt, lineAnswer, Onward, Inside}
 use Rattle.figures.specs.declared.lines.Line.{Line}
 use Rattle.figures.specs.declared.lines.Line.the-variants.{Numbers}
 use Rattle.figures.proofs.Collected.{triangle, triangle-is}
+use Rattle.figures.proofs.Told.{unread}
 use Rattle.figures.proofs.Turns.{Kept, first-kept, line-refused, twice, no-divisor, next-kept, bytes-follow, count-missing, all-read}
 use Rattle.figures.proofs.entries.read_entries.Statement.{statement}
 use Rattle.figures.proofs.entries.read_entries.Tie as tie
@@ -62,8 +63,11 @@ module _ (c : tie.After-entry-line Inv-loop μ-loop) where
 
 returns : tie.Need-returns Inv-loop μ-loop
 returns c =
-    let d = c .before .before .before in
-    c .refuse-line .ensures ∙ line-refused (kept d) (read d) (d .entry-line .ensures .0) _ (c .before .enum-told .given .1)
+    let o = c .before .before in
+    let d = o .before .before in
+    let e = o .enum-told .given .1 in
+    unread (c .without-figures .ensures) (c .before .answer .ensures ∙ ap lineAnswer e)
+    ∙ line-refused (kept d) (read d) (d .entry-line .ensures .0) e
 
 -- Where it is an entry.
 module _ (c : tie.After-known-told Inv-loop μ-loop) where
@@ -92,14 +96,15 @@ returns-2 : tie.Need-returns-2 Inv-loop μ-loop
 returns-2 c =
     let d = c .before .before .before .before in
     let l = line d in
-    c .refuse .ensures ∙ twice (kept l) (read l) (l .entry-line .ensures .0) (is-entry d) (inside d) (c .before .if1 .taken)
+    unread (c .without-figures2 .ensures) refl
+    ∙ twice (kept l) (read l) (l .entry-line .ensures .0) (is-entry d) (inside d) (c .before .if1 .taken)
 
 returns-3 : tie.Need-returns-3 Inv-loop μ-loop
 returns-3 c =
     let z = c .before .before .before in
     let d = z .before .before in
     let l = line d in
-    c .refuse2 .ensures
+    unread (c .without-figures3 .ensures) refl
     ∙ no-divisor (kept l) (read l) (l .entry-line .ensures .0) (is-entry d) (inside d) (c .before .before .if1 .left)
     (sym (z .is-zero-divisor .ensures) ∙ c .before .if2 .taken)
 
@@ -120,12 +125,14 @@ module _ (c : tie.After-loop Inv-loop μ-loop) where
   last = now-left (c .before) 0 (omega (arith, c .loop-test .left))
 
 returns-4 : tie.Need-returns-4 Inv-loop μ-loop
-returns-4 c = c .refuse3 .ensures ∙ bytes-follow (last (c .before .before)) (c .before .if3 .taken)
+returns-4 c =
+    unread (c .without-figures4 .ensures) refl
+    ∙ bytes-follow (last (c .before .before)) (c .before .if3 .taken)
 
 returns-5 : tie.Need-returns-5 Inv-loop μ-loop
 returns-5 c =
     let s = c .before .before in
-    c .refuse4 .ensures
+    unread (c .without-figures5 .ensures) refl
     ∙ count-missing (last (s .before .before)) (s .before .if3 .left) (sym (s .all-seen .ensures) ∙ not-true _ (c .before .if4 .taken))
 
 returns-6 : tie.Need-returns-6 Inv-loop μ-loop
@@ -164,6 +171,7 @@ read-entries-spec =
     (λ _ _. tt)
     (λ c. search needs)
     (λ c. search needs)
+    (λ _ _. tt)
     (λ _ _. tt)
     returns
     (λ c. omega (arith, named c))
