@@ -1,6 +1,6 @@
 // Document 01's cases through the real functions. Cases 1 to 8 pass by the definitions as one statement, proofs/Passed.antt.
-// Before a fill each column holds 9 throughout, and none of it is left after; so does the room for a text before it is printed, where 9 is
-// a tab.
+// Before a case's first fill each column holds 9 throughout, and none of it is left after; so does the room for a text before it is printed,
+// where 9 is a tab.
 ghost use mathlib.Core.Bool.{true};
 ghost use mathlib.Core.Logic.{_↔_};
 ghost use mathlib.Core.Path.{_≡_};
@@ -69,31 +69,28 @@ fn case_1() {
     check::expect(is_printed(1, &costs, &lefts, &mut text, b"1;"));
 }
 
-// The size is held at 4,294,967,295, and the cost is equal to it: that limit accepts, and one less gives 7.
+// The size is held at 4,294,967,295, and the cost is equal to it: that limit accepts, and one less gives 7. The size is still written then.
 fn case_2() {
-    check::expect(is_plan(fill_widest(4294967295), 4294967295, 4294967295));
-    check::expect(is_no_plan(fill_widest(4294967294)));
-}
-
-// A fill of case 2's two relations.
-fn fill_widest(limit: u64) -> Planned
-    ensures { λ x. ⌜ answer x ≡ result fill (widest limit) .answer ⌝ }
-{
-    let counts: [u32; 2] = [4294967295; 2];
-    let divisors: [u32; 1] = [1];
     let mut sizes: [u32; 4] = [9; 4];
     let mut costs: [u64; 4] = [9; 4];
     let mut lefts: [u16; 4] = [9; 4];
-    table::fill(
-        2,
-        &counts,
-        &divisors,
-        0,
-        limit,
-        &mut sizes,
-        &mut costs,
-        &mut lefts,
-    )
+    let found = fill_widest(4294967295, &mut sizes, &mut costs, &mut lefts);
+    check::expect(is_plan(found, 4294967295, 4294967295));
+    let refused = fill_widest(4294967294, &mut sizes, &mut costs, &mut lefts);
+    check::expect(is_no_plan(refused));
+    check::expect(sizes[3] == 4294967295);
+    check::expect(costs[3] == u64::MAX);
+    check::expect(lefts[3] == 0);
+}
+
+// A fill of case 2's two relations.
+fn fill_widest(limit: u64, sizes: &mut [u32], costs: &mut [u64], lefts: &mut [u16]) -> Planned
+    ensures { λ x. ⌜ resultOf x (widest limit .figures .counts) (widest limit .figures .divisors) (now (sizes .exit)) (now (costs .exit)) (now (lefts .exit))
+        ≡ result fill (onto (widest limit) (columns (now (sizes .entry)) (now (costs .entry)) (now (lefts .entry)))) ⌝ }
+{
+    let counts: [u32; 2] = [4294967295; 2];
+    let divisors: [u32; 1] = [1];
+    table::fill(2, &counts, &divisors, 0, limit, sizes, costs, lefts)
 }
 
 // The sizes, rounded up once, and the tree.

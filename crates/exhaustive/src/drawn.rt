@@ -11,7 +11,7 @@ use crate::figures::Figures;
 pub const EDITS: u32 = 160;
 
 // The number drawn at a place of a seed's list.
-pub fn drawn(seed: u64, place: usize) -> u32 {
+fn drawn(seed: u64, place: usize) -> u32 {
     let start = std::num::wrapping_add_u64(seed << 32, place as u64);
     let number = stirred(stirred(stirred(start)));
     (number / 4294967296) as u32

@@ -31,7 +31,7 @@ pub fn is_edit(edit: Edit) -> bool {
 }
 
 // Where relation k's count stands.
-pub fn count_place(k: u32) -> usize {
+fn count_place(k: u32) -> usize {
     less(k, 1) as usize
 }
 

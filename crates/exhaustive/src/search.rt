@@ -27,7 +27,7 @@ pub struct Found {
 }
 
 // The cheapest of every tree of `set`, and of several the one that document 01's rule for ties picks.
-pub fn cheapest(set: u32, model: u32, sizes: &[u32]) -> Best {
+fn cheapest(set: u32, model: u32, sizes: &[u32]) -> Best {
     let members = sets::members_of(set);
     let mut best = Best {
         cost: u64::MAX,

@@ -100,10 +100,19 @@ unfolding weight mem those without inside allOf first lowestTo lowest rest large
     faulty meets meetsFault shortColumn unprinted
 judged = (refl, refl, refl, refl, refl, refl, refl, refl, refl)
 
--- The text, and the bytes past it as they were; nothing where it is refused.
+-- The text, and the bytes past it as they were.
 laid : (printed 3 (column 20 106) (column 1 3) (replicate 12 7) .room ≡ bytes "((1,2),3);" ++ (7 ∷ 7 ∷ []))
     × (printed 3 (column 20 106) (column 1 3) (replicate 12 7) .answer ≡ record { number = 0; length = 10 })
+unfolding weight mem those without inside allOf first lowestTo lowest rest larger isRelation inOrder digits decimal digitsTo needed
+    planIn planOf text wholeText faulty meets meetsFault shortColumn unprinted printed
+laid = (refl, refl)
+
+-- Nothing where it is refused: each refusal by itself, all else as above.
+kept : (printed 16 (column 20 106) (column 1 3) (replicate 12 7) ≡ unwritten (replicate 12 7) 1)
+    × (printed 3 [] (column 1 3) (replicate 12 7) ≡ unwritten (replicate 12 7) 6)
+    × (printed 3 (column 20 106) (column 1 3) (replicate 9 7) ≡ unwritten (replicate 9 7) 9)
+    × (printed 3 (column 20 NONE) (column 1 3) (replicate 12 7) ≡ unwritten (replicate 12 7) 7)
     × (printed 3 (column 20 106) (column 0 3) (replicate 12 7) ≡ unwritten (replicate 12 7) 10)
 unfolding weight mem those without inside allOf first lowestTo lowest rest larger isRelation inOrder digits decimal digitsTo needed
     planIn planOf text wholeText faulty meets meetsFault shortColumn unprinted printed
-laid = (refl, refl, refl)
+kept = (refl, refl, refl, refl, refl)

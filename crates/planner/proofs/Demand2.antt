@@ -25,9 +25,10 @@ use Rattle.table.specs.Trees.{Tree}
 use Rattle.table.proofs.Demand2.{optimal}
 use Rattle.table.proofs.Refusals.{first-zero, passed-false, result-done}
 use Rattle.planner.specs.Plans.{FEW, callOf, filled, treeOf, unfit, refusal, Result, written, planned}
-use Rattle.planner.specs.Best.{fig, OverAll, costOf, Best, NoPlan, Demand2}
+use Rattle.planner.specs.Best.{fig, OverAll, costOf, LeastLefts, Best, NoPlan, Demand2}
 use Rattle.planner.proofs.Fit.{fill-refuses}
 use Rattle.planner.proofs.Outcomes.{outcome-done, outcome-number}
+use Rattle.planner.proofs.Ties.{least-lefts}
 
 module _ (text : List ℕ) (model limit : ℕ) (room : List ℕ) where
   abbrev read : Figures
@@ -107,6 +108,14 @@ module _ (text : List ℕ) (model limit : ℕ) (room : List ℕ) where
         by (yes l) = omega (arith, same, full .least x h l)
         by (no l) = omega (arith, same, full .within some)
 
+    -- At every join its left part is the least of those that cost the same.
+    leftmost : LeastLefts read model limit (treeOf read model limit)
+    unfolding callOf jobOf treeOf
+    leftmost =
+        let ok = proper (both .0) in
+        let all = all-some (read .n) (ok .some) (ok .few) in
+        least-lefts read model limit (read .n) (filled read model limit .table) (best-fill (both .0) .rows) (allOf (read .n)) (all .0) (all .1) some
+
     best : Best read model limit room (planned text model limit room)
     unfolding callOf jobOf treeOf
     best =
@@ -118,6 +127,7 @@ module _ (text : List ℕ) (model limit : ℕ) (room : List ℕ) where
           cost = o .cost (both .1);
           within = omega (arith, same, full .within some);
           least = no-less;
+          ties = leftmost;
           size = o .size (both .1);
         }
 
