@@ -44,6 +44,10 @@ enum { BUFFERMOSS_PLAN = 1000 };
 /* Room enough for any tree of up to 11 relations. */
 enum { BUFFERMOSS_ROOM = 44 };
 
+/* Stack enough for a thread that only makes the call; a refusal takes it, too. Measured by painting the stack, on x86-64 with glibc: some 37 KB are
+   taken, 31 of them by the call, the rest by the C library for the thread and by the dynamic linker in a first call. */
+enum { BUFFERMOSS_STACK = 40960 };
+
 /*
  * The cheapest plan for the figures file of `length` bytes at `text` (Matrix Market, coordinate integer symmetric: row counts on the
  * diagonal, divisors below it). The tree is written to `tree` in Newick form, as "((2,3),(1,4));", with no byte 0 after it; bytes past

@@ -38,6 +38,19 @@ pub fn mangled(random: &mut Random, most: u32) -> Vec<u8> {
     text
 }
 
+/// An accepted text of 0 bytes, which is cut to that, or of far more than its entries take, by comments.
+pub fn accepted_of_length(random: &mut Random, most: u32, length: usize) -> Vec<u8> {
+    let draft = draft(random, most);
+    write_to_length(random, draft, length)
+}
+
+/// A misstated text in the same way.
+pub fn misstated_of_length(random: &mut Random, most: u32, length: usize) -> Vec<u8> {
+    let mut draft = draft(random, most);
+    misstate(random, &mut draft);
+    write_to_length(random, draft, length)
+}
+
 /// Bytes of any kind, after line 1 or not.
 pub fn garbage(random: &mut Random, length: usize) -> Vec<u8> {
     let mut text = Vec::new();
@@ -98,6 +111,21 @@ fn write(draft: &Draft) -> Vec<u8> {
     for [a, b, c] in std::iter::once(&draft.size).chain(&draft.entries) {
         text.extend_from_slice(format!("{a} {b} {c}\n").as_bytes());
     }
+    text
+}
+
+fn write_to_length(random: &mut Random, mut draft: Draft, length: usize) -> Vec<u8> {
+    draft.comments.clear();
+    let mut missing = length.saturating_sub(write(&draft).len());
+    // A comment takes two bytes with its sign and its feed, so no byte may be left alone.
+    while missing > 0 {
+        let bytes = random.pick(&[2, 3, 80, 10_000]).min(missing);
+        let bytes = bytes + usize::from(missing - bytes == 1);
+        draft.comments.push(vec![b'%'; bytes - 2]);
+        missing -= bytes;
+    }
+    let mut text = write(&draft);
+    text.truncate(length);
     text
 }
 

@@ -4,6 +4,7 @@
 pub mod call;
 pub mod charges;
 pub mod file;
+pub mod report;
 pub mod table;
 pub mod tree;
 
