@@ -166,9 +166,10 @@ unfolding priced first isRelation isPair names newDivisor anyZero short inOrder 
 edited = (refl, refl, refl, refl)
 
 answered : (planned (record { size = 8; cost = 5; left = 1 }) ≡ record { number = 0; cost = 5; size = 8 })
-    × (planned (record { size = 8; cost = NONE; left = 0 }) ≡ refused 7)
+    × (planned (record { size = 8; cost = NONE; left = 0 }) ≡ record { number = 7; cost = 0; size = 0 })
+    × (answer (Refused Name) ≡ record { number = 8; cost = 0; size = 0 })
 unfolding planned
-answered = (refl, refl)
+answered = (refl, refl, refl)
 
 -- The count is stored before its row is worked; row 0 is not touched.
 mends : mended (editCount 1 7) (two 1 (4 ∷ []) [] 0 0 2) ≡ columns (9 ∷ 7 ∷ []) (9 ∷ 0 ∷ []) (9 ∷ 0 ∷ [])

@@ -1,7 +1,7 @@
 -- Each answer is the first of the refusals that there is.
 use borrow.Author.Needs.{needs}
 use borrow.Author.Tests.{lt-leb}
-use Prim.Native.Nat.{_^_}
+use Prim.Native.Nat.{_^_, _<_}
 use mathlib.Core.Bool.{cond}
 use mathlib.Core.Path.{_≡_, sym, ap, _∙_}
 use Rattle.relations.specs.Sets.{first}
@@ -31,10 +31,12 @@ unfolding unfit inOrder first
 returns-3 c =
     let told = c .before .before in
     let figures = told .before .before .before in
+    let a = figures .before .before .before .before .before .before .before .before .args in
+    let above : 2 ^ 60 < a .job .limit = c .if1 .taken in
     rw (
       sym (figures .before .before .check-figures .ensures) ∙ ap found (figures .enum-told .given .1),
       ap (λ (y : Answer). y .number) (sym (told .before .before .charge .ensures) ∙ ap answer (told .enum-told3 .given .1)),
-      lt-leb _ _ (c .if1 .taken),
+      lt-leb _ _ above,
     )
 
 -- Where only the columns are left to be refused for.

@@ -1,4 +1,5 @@
 -- A column is short where it ends at the full set or before.
+use Prim.Native.Nat.{_≤_}
 use lib.ListN.{length}
 use borrow.Author.Needs.{needs}
 use borrow.Author.Tests.{le-leb, lt-leb}
@@ -23,11 +24,12 @@ returns-2 c =
     let f = c .before .before .before .before .before .before .before in
     let at = edge (f .args .n) in
     let full = c .before .before .before .all .ensures ∙ all-is (f .args .n) (f .pre) in
+    let ends : length (f .args .costs .now) ≤ c .before .before .before .all .result .number = c .if2 .taken in
     rw (
       ← at (length (f .args .sizes .now)) _ full,
       ← at (length (f .args .costs .now)) _ full,
       lt-leb _ _ (c .before .if1 .left),
-      le-leb _ _ (c .if2 .taken),
+      le-leb _ _ ends,
     )
 
 returns-3 : tie.Need-returns-3

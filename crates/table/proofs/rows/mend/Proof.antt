@@ -19,9 +19,9 @@ use Rattle.table.proofs.rows.mend.Tie as tie
 
 abbrev Inv-loop : tie.InvT-loop
 Inv-loop job counts divisors sizes₀ costs₀ lefts₀ a b full s₀ sizes costs lefts s =
-    (s ≤ 2 ^ job .n)
-    × (columns sizes costs lefts
+    (columns sizes costs lefts
     ≡ mendTo (rowOf (jobFor (job .model) (job .limit)) (figures counts divisors)) (holding (a .number) (b .number)) s (columns sizes₀ costs₀ lefts₀))
+    × (s ≤ 2 ^ job .n)
 
 abbrev μ-loop : tie.MeasureT-loop
 μ-loop job counts divisors sizes₀ costs₀ lefts₀ a b full s₀ sizes costs lefts s = 2 ^ job .n - s
@@ -32,12 +32,8 @@ returns c =
     let all = c .before .before in
     let f = all .before .before .before .before .before .before in
     let full = all .all .ensures ∙ all-is (f .args .job .n) (f .pre .few) in
-    let e : at .s ≡ 2 ^ f .args .job .n = omega (arith, at .inv .0, c .loop-test .left, full) in
-    rw (← e) (at .inv .1)
-
-loop-holds : tie.Need-loop-holds Inv-loop μ-loop
-unfolding mendTo
-loop-holds c = (omega arith, refl)
+    let e : at .s ≡ 2 ^ f .args .job .n = omega (arith, at .inv .1, c .loop-test .left, full) in
+    rw (← e) (at .inv .0)
 
 loop-again : tie.Need-loop-again Inv-loop μ-loop
 loop-again c =
@@ -47,9 +43,13 @@ loop-again c =
     let all = turn .before .before in
     let f = all .before .before .before .before .before .before in
     let full = all .all .ensures ∙ all-is (f .args .job .n) (f .pre .few) in (
+      mend-next _ _ (at .s) _ (columns (at .sizes) (at .costs) (at .lefts)) _ (at .inv .0) (row .mend-row .ensures),
       omega (arith, turn .loop-test .taken, full, pow-pos (f .args .job .n)),
-      mend-next _ _ (at .s) _ (columns (at .sizes) (at .costs) (at .lefts)) _ (at .inv .1) (row .mend-row .ensures),
     )
+
+loop-holds : tie.Need-loop-holds Inv-loop μ-loop
+unfolding mendTo
+loop-holds c = (refl, omega arith)
 
 loop-less : tie.Need-loop-less Inv-loop μ-loop
 loop-less c =
@@ -67,7 +67,7 @@ mend-row-requires c κs =
     let f = all .before .before .before .before .before .before in
     let a = f .args in
     let T = columns (at .sizes) (at .costs) (at .lefts) in
-    let room : Room T (2 ^ a .job .n) = rw (at .inv .1) (mend-room _ _ (at .s) _ (f .pre .room)) in
+    let room : Room T (2 ^ a .job .n) = rw (at .inv .0) (mend-room _ _ (at .s) _ (f .pre .room)) in
     let full = all .all .ensures ∙ all-is (a .job .n) (f .pre .few) in (
       fit-onto 1 (called (a .job .n) (a .counts .now) (a .divisors .now) (a .job .model) (a .job .limit) (a .sizes .now) (a .costs .now) (a .lefts .now))
           T (f .pre) room,
@@ -79,16 +79,16 @@ add-s c =
     let at = c .before .before .before .before .before .before .before .before .before .before .before in
     let f = at .before .before .before .before .before .before .before in
     let small : 2 ^ f .args .job .n ≤ 2 ^ MOST = pow-mono (f .pre .few) in
-    record { fits = omega (arith, at .loop .inv .0) }
+    record { fits = omega (arith, at .loop .inv .1) }
 
 same-length : tie.Need-same-length Inv-loop μ-loop
-same-length c = ap (λ (T : Table). length (T .sizes)) (c .before .loop .inv .1) ∙ mend-long _ _ (c .before .loop .s) _ .sizes
+same-length c = ap (λ (T : Table). length (T .sizes)) (c .before .loop .inv .0) ∙ mend-long _ _ (c .before .loop .s) _ .sizes
 
 same-length-2 : tie.Need-same-length-2 Inv-loop μ-loop
-same-length-2 c = ap (λ (T : Table). length (T .costs)) (c .before .loop .inv .1) ∙ mend-long _ _ (c .before .loop .s) _ .costs
+same-length-2 c = ap (λ (T : Table). length (T .costs)) (c .before .loop .inv .0) ∙ mend-long _ _ (c .before .loop .s) _ .costs
 
 same-length-3 : tie.Need-same-length-3 Inv-loop μ-loop
-same-length-3 c = ap (λ (T : Table). length (T .lefts)) (c .before .loop .inv .1) ∙ mend-long _ _ (c .before .loop .s) _ .lefts
+same-length-3 c = ap (λ (T : Table). length (T .lefts)) (c .before .loop .inv .0) ∙ mend-long _ _ (c .before .loop .s) _ .lefts
 
 pub mend-spec : {M : Type 1} → statement M
 mend-spec =

@@ -1,7 +1,9 @@
 -- A row is written where the set holds both, by the row rule, and nowhere else.
 use borrow.Author.Needs.{needs}
 use borrow.Author.Tests.{not-true, not-false}
-use mathlib.Core.Path.{sym, _∙_}
+use mathlib.Core.Bool.{true, false}
+use mathlib.Core.Path.{_≡_, sym, _∙_}
+use Rattle.relations.specs.Sets.{inside}
 use Rattle.table.specs.Tables.{columns, writeRow}
 use Rattle.table.specs.Inner.{holding}
 use Rattle.table.proofs.Mending.{row-kept, row-made}
@@ -17,8 +19,10 @@ returns c =
 returns-2 : tie.Need-returns-2
 unfolding holding
 returns-2 c =
-    let d = sym (c .before .before .before .holds .ensures) ∙ not-false _ (c .before .before .if1 .left) in
-    let e = sym (c .before .holds2 .ensures) ∙ not-true _ (c .if2 .taken) in
+    let holds = c .before .before .before in
+    let a = holds .before .before .before .before .before .before .args in
+    let d : inside (a .a .number) (a .set .number) ≡ true = sym (holds .holds .ensures) ∙ not-false _ (c .before .before .if1 .left) in
+    let e : inside (a .b .number) (a .set .number) ≡ false = sym (c .before .holds2 .ensures) ∙ not-true _ (c .if2 .taken) in
     row-kept _ _ _ _ (rw (d, e))
 
 returns-3 : tie.Need-returns-3

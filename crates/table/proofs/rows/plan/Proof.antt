@@ -1,10 +1,13 @@
 -- The full set's row is there, and its cost tells a plan from none.
 use native.Mathlib.Omega.{arith}
+use lib.ListN.{getD}
 use lib.Pow.{pow-pos}
+use mathlib.Core.Path.{_≡_}
 use borrow.Author.Needs.{needs}
 use borrow.Author.Tests.{eq-eqb, ne-eqb}
 use Rattle.relations.proofs.Named.{all-is}
 use Rattle.table.specs.Tables.{rowAt}
+use Rattle.table.specs.Rule.{NONE}
 use Rattle.table.specs.Results.{planned}
 use Rattle.table.proofs.rows.plan.Statement.{statement}
 use Rattle.table.proofs.rows.plan.Tie as tie
@@ -12,8 +15,9 @@ use Rattle.table.proofs.rows.plan.Tie as tie
 returns : tie.Need-returns
 unfolding planned rowAt
 returns c = λ lefts.
-    let e = eq-eqb _ _ (c .if1 .taken) in
-    rw (← c .before .before .before .all .ensures, e)
+    let all = c .before .before .before in
+    let none : getD (all .before .before .before .args .costs .now) (all .all .result .number) 0 ≡ NONE = c .if1 .taken in
+    rw (← all .all .ensures, eq-eqb _ _ none)
 
 returns-2 : tie.Need-returns-2
 unfolding planned rowAt
