@@ -230,6 +230,36 @@ ALWAYS_INLINE Found half_paired(int model, Table table, uint32_t set, Found foun
     return found;
 }
 
+// One split, with a jump where the sum overflows in place of a hold.
+ALWAYS_INLINE Found tried_unheld(int model, Table table, Found found, uint32_t left, uint32_t right)
+{
+    const uint64_t sum = table.costs[left] + table.costs[right];
+    if (sum < table.costs[left])
+        return found;
+    if (sum < found.best) {
+        const uint64_t total = sum + charge_for_split(model, table.sizes[left], table.sizes[right]);
+        if (total < found.best)
+            return (Found){total, left};
+    }
+    return found;
+}
+
+// The form that ours has: the step is taken on the set itself, from each left part to the next, two splits a turn. The splits before the
+// middle are odd in number, so that only the second step of a turn can pass it: there the right part has the lesser number.
+ALWAYS_INLINE Found half_stepped(int model, Table table, uint32_t set, Found found)
+{
+    uint32_t left = 0;
+    for (;;) {
+        left = next_left(set, left);
+        found = tried_unheld(model, table, found, left, set - left);
+        left = next_left(set, left);
+        const uint32_t right = set - left;
+        if (right < left)
+            return found;
+        found = tried_unheld(model, table, found, left, right);
+    }
+}
+
 // ---- The table of forms. To add one: its loop above, then a line in each of the two lists below.
 
 // A search for each model, so that the compiler sees the model as a constant.
@@ -244,6 +274,7 @@ SEARCHES(half_clamped)
 SEARCHES(half_pruned)
 SEARCHES(half_saturated)
 SEARCHES(half_paired)
+SEARCHES(half_stepped)
 
 typedef struct {
     const char *name;
@@ -253,7 +284,8 @@ typedef struct {
 #define FORM(form) {#form, {form##_0, form##_1, form##_2}}
 
 static const Form FORMS[] = {
-    FORM(nested), FORM(half_nested), FORM(half_clamped), FORM(half_pruned), FORM(half_saturated), FORM(half_paired),
+    FORM(nested),         FORM(half_nested), FORM(half_clamped), FORM(half_pruned),
+    FORM(half_saturated), FORM(half_paired), FORM(half_stepped),
 };
 
 // ---- Sizes and the fill: the same for every form.

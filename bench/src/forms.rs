@@ -1,4 +1,4 @@
-//! The same row rule in safe Rust, with slices and their bounds checks, in two forms of the search for the best split.
+//! The same row rule in safe Rust, with slices and their bounds checks, in three forms of the search for the best split.
 
 use crate::job::{Columns, Figures, Job, LIMIT};
 
@@ -118,6 +118,46 @@ fn tried<M: Model>(
     }
 }
 
+/// The form that ours has: the step is taken on the set itself, from each left part to the next, two splits a turn, until the right part
+/// has the lesser number.
+pub struct HalfStepped;
+
+impl Loop for HalfStepped {
+    fn best<M: Model>(columns: &Columns, set: usize, bound: u64) -> (u64, usize) {
+        let columns = (&columns.sizes[..=set], &columns.costs[..=set]);
+        let (mut best, mut left) = ((bound, 0), 0);
+        loop {
+            left = next_left(set, left);
+            best = tried_unheld::<M>(columns, best, left, set - left);
+            left = next_left(set, left);
+            let right = set - left;
+            if right < left {
+                return best;
+            }
+            best = tried_unheld::<M>(columns, best, left, right);
+        }
+    }
+}
+
+/// The same with a jump where the sum overflows, in place of a hold.
+fn tried_unheld<M: Model>(
+    (sizes, costs): (&[u32], &[u64]),
+    best: (u64, usize),
+    left: usize,
+    right: usize,
+) -> (u64, usize) {
+    let sum = costs[left].wrapping_add(costs[right]);
+    if sum < costs[left] || sum >= best.0 {
+        return best;
+    }
+    let total = sum + M::for_split(sizes[left], sizes[right]);
+    if total < best.0 {
+        (total, left)
+    } else {
+        best
+    }
+}
+
 fn next_left(set: usize, left: usize) -> usize {
     set & left.wrapping_sub(set)
 }
@@ -182,5 +222,6 @@ pub fn forms() -> Vec<Form> {
     vec![
         ("nested", fill::<Nested>),
         ("half_paired", fill::<HalfPaired>),
+        ("half_stepped", fill::<HalfStepped>),
     ]
 }

@@ -3,6 +3,9 @@
 use crate::grid::{Cell, MODELS};
 use crate::measure::{Results, EDIT_COUNT, EDIT_PAIR, FILL};
 
+/// The form in C and Rust that does what our search does, split by split.
+const SAME_FORM: &str = "half_stepped";
+
 /// A goal is empty where there is none. None is enforced: times are no test.
 pub struct Ratio {
     pub name: String,
@@ -68,12 +71,14 @@ impl Results {
 
     /// The paper's loop in C, by the compiler that does better in the cell.
     pub fn nested_c(&self) -> Vec<f64> {
-        let nested: Vec<&str> = self
-            .c_forms()
-            .into_iter()
-            .filter(|name| name.ends_with(" nested"))
-            .collect();
-        self.least(&nested)
+        self.by_better_compiler("nested")
+    }
+
+    /// Cell by cell, the median of a C form by the compiler that does better there.
+    fn by_better_compiler(&self, form: &str) -> Vec<f64> {
+        let is_form = |name: &&str| name.split_once(' ').is_some_and(|(_, known)| known == form);
+        let names: Vec<&str> = self.c_forms().into_iter().filter(is_form).collect();
+        self.least(&names)
     }
 
     /// Cell by cell, the least median of some contenders.
@@ -134,20 +139,25 @@ impl Results {
         vec![
             to(
                 "fill / nested C, better compiler",
-                ["0.50", "0.65"],
+                ["0.42", "0.65"],
                 self.nested_c(),
             ),
             to(
-                "fill / best C form of the model",
+                "fill / same form in C, better compiler",
                 ["1.00", ""],
+                self.by_better_compiler(SAME_FORM),
+            ),
+            to(
+                "fill / best C form of the model",
+                ["", ""],
                 self.best_c_medians(),
             ),
-            to("fill / best C form of the cell", ["1.00", ""], best_of_cell),
+            to("fill / best C form of the cell", ["", ""], best_of_cell),
             to("fill / nested Rust", ["", ""], self.medians("rust nested")),
             to(
-                "fill / half_paired Rust",
+                "fill / same form in Rust",
                 ["", ""],
-                self.medians("rust half_paired"),
+                self.medians(&format!("rust {SAME_FORM}")),
             ),
         ]
     }

@@ -11,7 +11,7 @@ pub fn printed(results: &Results) -> String {
     let mut text = format!("{}\n\n", how(results));
     let _ = writeln!(
         text,
-        "{:<34}{:>16}{:>18}   {:<22} worst cell",
+        "{:<40}{:>16}{:>18}   {:<22} worst cell",
         "", "mean (goal)", "worst (goal)", "model 0      1      2"
     );
     for ratio in results.ratios() {
@@ -34,7 +34,7 @@ fn printed_ratio(ratio: &Ratio) -> String {
     let (cell, worst) = ratio.worst();
     let by_model = MODELS.map(|model| format!("{:.3}", ratio.mean(|cell| cell.model == model)));
     format!(
-        "{:<34}{:>16}{:>18}   {:<22} {}",
+        "{:<40}{:>16}{:>18}   {:<22} {}",
         ratio.name,
         with_goal(ratio.mean(|_| true), ratio.goal_mean),
         with_goal(worst, ratio.goal_worst),

@@ -37,7 +37,8 @@ fn main() {
 /// Texts of one length: accepted, accepted up to the last byte, misstated, and any bytes.
 fn one_length(random: &mut Random, length: usize, runs: &mut Tally) {
     let accepted = texts::accepted_of_length(random, 11, length);
-    agree(&accepted, AT_ONCE, runs);
+    let is_planned = (1..=LONGEST).contains(&length);
+    assert_eq!(agree(&accepted, AT_ONCE, runs) == 0, is_planned);
     agree(&accepted, IN_PIECES, runs);
     let mut followed = texts::accepted_of_length(random, 11, length.saturating_sub(1));
     followed.resize(length, b'1');
@@ -53,7 +54,7 @@ const AT_ONCE: usize = usize::MAX;
 const IN_PIECES: usize = 1_000;
 
 /// Every byte that is printed is the model's.
-fn agree(text: &[u8], piece: usize, runs: &mut Tally) {
+fn agree(text: &[u8], piece: usize, runs: &mut Tally) -> u32 {
     let expected = report(text);
     let found = run(text, piece);
     assert_eq!(
@@ -64,6 +65,7 @@ fn agree(text: &[u8], piece: usize, runs: &mut Tally) {
         String::from_utf8_lossy(text)
     );
     runs.count(expected.number);
+    expected.number
 }
 
 fn run(text: &[u8], piece: usize) -> Vec<u8> {
