@@ -1,11 +1,13 @@
 // What a join costs beside its two trees (document 01, "Costs"). A size is any u32, and nothing overflows.
+#![tactic(auto)]
+
 ghost use Rattle.std.specs.Prelude.{◌≡◌, ◌+◌, ◌^◌, ◌<◌, ◌≤◌, min};
 ghost use Rattle.charges.specs.Charges.{up, log2, w, sort_merge, disk_loops, priced, answer};
 
 use numbers::{product, wide};
 
 // The charge of a join, or the refusal of a model that there is not.
-#[derive(Drop)]
+#[derive(Clone, Copy)]
 pub enum Charged {
     At(u64),
     UnknownModel,

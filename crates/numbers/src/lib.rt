@@ -1,4 +1,6 @@
 // Numbers as every crate takes them: a size, a row count and a divisor have 32 bits, and what is worked out from two of them has 64.
+#![tactic(auto)]
+
 ghost use Rattle.std.specs.Prelude.{◌≡◌, ◌+◌, ◌*◌, ◌<◌, ◌≤◌, length};
 ghost use Rattle.std.proofs.lemmas.List.Edits.{sets};
 ghost use Rattle.numbers.specs.Texts.{digit, decimal};
@@ -20,8 +22,8 @@ pub fn product(a: u32, b: u32) -> u64
 // A number written in decimal from place `at` on; the place after it.
 pub fn put_decimal(x: u64, out: &mut [u8], at: usize) -> usize
     requires { at + length (decimal x) ≤ length out.old }
-    ensures value { result ≡ at + length (decimal x) }
-    ensures out_after { out.new ≡ sets out.old at (decimal x) }
+    ensures end { result ≡ at + length (decimal x) }
+    ensures written { out.new ≡ sets out.old at (decimal x) }
 {
     if x < 10 {
         out[at] = digit(x);

@@ -1,5 +1,7 @@
 // The one numbering of relations, and sets of them (document 01, "One numbering"). Relation k is number k everywhere: in the row
 // counts, the pair figures, the table and the printed tree.
+#![tactic(auto)]
+
 ghost use Rattle.std.specs.Prelude.{◌≡◌, ◌^◌, ◌<◌};
 ghost use Rattle.relations.specs.Sets.{one_of, all_of, inside, Part, without, lowest, rest, single, larger};
 ghost use Rattle.relations.specs.Splits.{next_left, Next};
@@ -11,7 +13,7 @@ pub mod pairs;
 pub const MOST: u32 = 15;
 
 // A set of relations, by its number: the sum of its members' weights, where relation k weighs 2^(k-1).
-#[derive(Drop)]
+#[derive(Clone, Copy)]
 pub struct Set {
     pub number: u32,
 }
