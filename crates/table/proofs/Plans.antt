@@ -8,7 +8,7 @@ use Rattle.relations.proofs.Parts.{part_apart, apart-part}
 use Rattle.relations.proofs.Lowest.{lowest_pos, alone_no_part, rest-weight}
 use Rattle.table.specs.Figures.{Figures, size_of}
 use Rattle.table.specs.Tables.{Table, row_at}
-use Rattle.table.specs.Rule.{NONE, Job, join_cost, within, price}
+use Rattle.table.specs.Rule.{NONE, Job, join_cost, price}
 use Rattle.table.specs.Trees.{Tree, leaf, join, set_of, Over, cost_of, tree_cost, plan_in, plan_of}
 use Rattle.table.specs.declared.rows.Row.{Row}
 use Rattle.table.proofs.Reasoning.{by_test}

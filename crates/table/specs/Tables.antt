@@ -1,6 +1,6 @@
 -- The table: its rows, its columns and the one fold that fills and mends it (document 01, "Rows of the table"). A further column is a
 -- field of `Row` and of `Table` and a line in each definition here.
-use Rattle.std.specs.Prelude.{◌≡◌, ℕ, zero, suc, ◌+◌, ◌-◌, ◌<◌, ◌≤◌, Bool, true, false, List, [], ◌∷◌, length, set, slice_index, slice_set, refl}
+use Rattle.std.specs.Prelude.{◌≡◌, ℕ, zero, suc, ◌+◌, ◌-◌, ◌<◌, ◌≤◌, Bool, true, false, List, [], ◌∷◌, length, slice_index, slice_set, refl}
 use Rattle.relations.specs.Sets.{mem}
 use Rattle.table.specs.declared.rows.Row.{Row}
 

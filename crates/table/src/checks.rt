@@ -12,7 +12,7 @@ use charges::Charged;
 use relations::{MOST, Set, pairs};
 
 // What the checks find.
-#[derive(Drop)]
+#[derive(Clone, Copy)]
 pub enum Checked {
     Passed,
     Failed(Refusal),

@@ -1,4 +1,6 @@
 // The table of plans (document 01, "Rows of the table"): a fill, and edits that mend it after one figure changes.
+#![tactic(auto)]
+
 ghost use Rattle.std.specs.Prelude.{◌≡◌};
 ghost use Rattle.table.specs.Requests.{fill, edit_count, edit_pair};
 ghost use Rattle.table.specs.Results.{number_of, called, result_of, result as due};
@@ -17,7 +19,7 @@ mod sizes;
 mod splits;
 
 // Why a fill or an edit is refused (document 01, "Numbers answered").
-#[derive(Drop)]
+#[derive(Clone, Copy)]
 pub enum Refusal {
     // 1: n is not 1 to 15.
     Relations,
@@ -38,14 +40,14 @@ pub enum Refusal {
 }
 
 // What a fill or an edit answers: the cost and the size of the plan for all n relations, or why there is none.
-#[derive(Drop)]
+#[derive(Clone, Copy)]
 pub enum Planned {
     Plan { cost: u64, size: u32 },
     Refused(Refusal),
 }
 
 // What a call asks for besides the figures: how many relations, by which model, within which limit.
-#[derive(Drop)]
+#[derive(Clone, Copy)]
 struct Job {
     n: u32,
     model: u32,

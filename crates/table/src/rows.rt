@@ -11,7 +11,7 @@ use crate::{Job, Planned, Refusal, sizes, splits};
 use relations::Set;
 
 // What the table holds of a set.
-#[derive(Drop)]
+#[derive(Clone, Copy)]
 pub struct Row {
     pub size: u32,
     pub cost: u64,
@@ -57,7 +57,7 @@ fn mend_row(
     set: Set,
 )
     requires fit { Fit 1 (called (length counts.now) counts.now divisors.now job.model job.limit sizes.old costs.old lefts.old) }
-    requires number_bound { set.number < 2 ^ length counts.now }
+    requires within { set.number < 2 ^ length counts.now }
     ensures { columns sizes.new costs.new lefts.new
         ≡ mend_row (row_of (job_for job.model job.limit) (figures counts.now divisors.now))
         (holding a.number b.number set.number)
@@ -79,9 +79,9 @@ fn mend_row(
 // The row rule: the row of `set` from the figures and from what the columns hold of its parts.
 fn row_of(job: Job, counts: &[u32], divisors: &[u32], sizes: &[u32], costs: &[u64], set: Set) -> Row
     requires complete { Complete (figures counts.now divisors.now) }
-    requires counts_len_bound { (length counts.now ≤ MOST) × (set.number < 2 ^ length counts.now) }
-    requires counts_in_bounds { (2 ^ length counts.now ≤ length sizes.now) × (2 ^ length counts.now ≤ length costs.now) }
-    requires limit_bound { job.limit ≤ 2 ^ 60 }
+    requires within { (length counts.now ≤ MOST) × (set.number < 2 ^ length counts.now) }
+    requires columns_long { (2 ^ length counts.now ≤ length sizes.now) × (2 ^ length counts.now ≤ length costs.now) }
+    requires limit_low { job.limit ≤ 2 ^ 60 }
     ensures { (lefts : List ℕ) → result
         ≡ row_of (job_for job.model job.limit) (figures counts.now divisors.now)
         (columns sizes.now costs.now lefts) set.number }
@@ -107,8 +107,8 @@ fn row_of(job: Job, counts: &[u32], divisors: &[u32], sizes: &[u32], costs: &[u6
 
 // The answer that the full set's row gives.
 pub fn plan(n: u32, sizes: &[u32], costs: &[u64]) -> Planned
-    requires n_bound { n ≤ MOST }
-    requires n_in_bounds { (2 ^ n ≤ length sizes.now) × (2 ^ n ≤ length costs.now) }
+    requires few { n ≤ MOST }
+    requires columns_long { (2 ^ n ≤ length sizes.now) × (2 ^ n ≤ length costs.now) }
     ensures { (lefts : List ℕ) → answer result ≡ planned (row_at (columns sizes.now costs.now lefts) (all_of n)) }
 {
     let full = Set::all(n).number as usize;

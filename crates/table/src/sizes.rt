@@ -21,8 +21,8 @@ pub fn count(counts: &[u32], k: u32) -> u32
 
 // The size of a set of two or more, v being the size of its rest.
 pub fn joined(counts: &[u32], divisors: &[u32], v: u32, set: Set) -> u32
-    requires number_value { larger set.number ≡ true }
-    requires number_bound { set.number < 2 ^ length counts.now }
+    requires larger_set { larger set.number ≡ true }
+    requires within { set.number < 2 ^ length counts.now }
     requires complete { Complete (figures counts.now divisors.now) }
     ensures { result ≡ joined (figures counts.now divisors.now) set.number v }
 {
@@ -34,8 +34,8 @@ pub fn joined(counts: &[u32], divisors: &[u32], v: u32, set: Set) -> u32
 
 // The product of the divisors between r and the relations of `others`, which have higher numbers, held at 2^64-1.
 fn across(divisors: &[u32], r: u32, others: Set) -> u64
-    requires by_index { (k : ℕ) → mem k others.number ≡ true → (r < k) × (place r k < length divisors.now) }
-    requires by_index_2 { (k : ℕ) → 1 ≤ slice_index_or divisors.now k 1 }
+    requires others_above { (k : ℕ) → mem k others.number ≡ true → (r < k) × (place r k < length divisors.now) }
+    requires divisors_positive { (k : ℕ) → 1 ≤ slice_index_or divisors.now k 1 }
     ensures { (k : ℕ) → others.number < 2 ^ k → result ≡ min HELD (across divisors.now r others.number k) }
 {
     let mut product: u64 = 1;

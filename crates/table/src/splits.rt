@@ -11,7 +11,7 @@ use charges::Charged;
 use relations::Set;
 
 // What a split costs, and its left part.
-#[derive(Drop)]
+#[derive(Clone, Copy)]
 pub struct Split {
     pub cost: u64,
     pub left: u32,
@@ -20,8 +20,8 @@ pub struct Split {
 // The cheapest usable split of `set`, whose size is o, by what the columns hold; figures and left parts do not matter. What every split
 // pays at least is set aside (document 002, section 3.2), and where that alone is over the limit nothing is searched.
 pub fn best_split(sizes: &[u32], costs: &[u64], model: u32, limit: u64, o: u32, set: Set) -> Split
-    requires number_value { (larger set.number ≡ true) × (limit ≤ 2 ^ 60) }
-    requires number_in_bounds { (set.number < length sizes.now) × (set.number < length costs.now) }
+    requires larger_set { (larger set.number ≡ true) × (limit ≤ 2 ^ 60) }
+    requires columns_long { (set.number < length sizes.now) × (set.number < length costs.now) }
     ensures { (fig : Figures) (lefts : List ℕ)
         → result ≡ best_to (price (job_for model limit) fig (columns sizes.now costs.now lefts) set.number o) set.number }
 {
@@ -50,8 +50,8 @@ pub fn best_split(sizes: &[u32], costs: &[u64], model: u32, limit: u64, o: u32, 
 
 // The search, with a call of its own for a model whose loop is to be compiled for it alone. The last arm serves every other.
 fn search_by(sizes: &[u32], costs: &[u64], model: u32, room: u64, o: u32, set: Set) -> Split
-    requires number_value { (larger set.number ≡ true) × (room ≤ 2 ^ 60) }
-    requires number_in_bounds { (set.number < length sizes.now) × (set.number < length costs.now) }
+    requires larger_set { (larger set.number ≡ true) × (room ≤ 2 ^ 60) }
+    requires columns_long { (set.number < length sizes.now) × (set.number < length costs.now) }
     ensures { (fig : Figures) (lefts : List ℕ)
         → result ≡ under (room + 1)
         (best_to (price (split_job model room) fig (columns sizes.now costs.now lefts) set.number o) set.number) }
@@ -67,8 +67,8 @@ fn search_by(sizes: &[u32], costs: &[u64], model: u32, room: u64, o: u32, set: S
 // the room is no test of its own. Each left part is the step from the one before it, two a turn. From where the right part has the lesser
 // number there are only mirrors of splits that were tried: they cost the same, and the first of equals wins.
 fn search(sizes: &[u32], costs: &[u64], model: u32, room: u64, o: u32, set: Set) -> Split
-    requires number_value { (larger set.number ≡ true) × (room ≤ 2 ^ 60) }
-    requires number_in_bounds { (set.number < length sizes.now) × (set.number < length costs.now) }
+    requires larger_set { (larger set.number ≡ true) × (room ≤ 2 ^ 60) }
+    requires columns_long { (set.number < length sizes.now) × (set.number < length costs.now) }
     ensures { (fig : Figures) (lefts : List ℕ)
         → result ≡ under (room + 1)
         (best_to (price (split_job model room) fig (columns sizes.now costs.now lefts) set.number o) set.number) }
@@ -104,9 +104,9 @@ fn try_split(
     left: u32,
     right: u32,
 ) -> Split
-    requires left_in_bounds { (left < length sizes.now) × (left < length costs.now) }
-    requires right_in_bounds { (right < length sizes.now) × (right < length costs.now) }
-    requires cost_bound { best.cost ≤ 2 ^ 60 + 1 }
+    requires left_row { (left < length sizes.now) × (left < length costs.now) }
+    requires right_row { (right < length sizes.now) × (right < length costs.now) }
+    requires best_low { best.cost ≤ 2 ^ 60 + 1 }
     ensures { (fig : Figures) (lefts : List ℕ) (room : ℕ)
         → result ≡ better (λ _. join_cost (split_job model room) fig
         (row_at (columns sizes.now costs.now lefts) left)
