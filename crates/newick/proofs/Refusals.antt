@@ -17,7 +17,7 @@ use Rattle.table.specs.Rule.{NONE}
 use Rattle.table.specs.Trees.{Over, plan_of}
 use Rattle.table.proofs.Reasoning.{by_test}
 use Rattle.table.proofs.Refusals.{first_zero, passed_true, passed_false}
-use Rattle.newick.specs.Texts.{text, whole_text, needed}
+use Rattle.newick.specs.Texts.{whole_text, needed}
 use Rattle.newick.specs.Walks.{meets_fault}
 use Rattle.newick.specs.Results.{short_column, unprinted, number_of, unwritten, written, printed}
 use Rattle.newick.specs.Inner.{Walked}

@@ -7,7 +7,7 @@ use crate::{Refusal, texts, walks};
 use relations::Set;
 
 // What the checks find.
-#[derive(Drop)]
+#[derive(Clone, Copy)]
 pub enum Checked {
     Passed,
     Failed(Refusal),

@@ -1,4 +1,6 @@
 // The plan as Newick text (document 01, "Printing the tree").
+#![tactic(auto)]
+
 ghost use Rattle.std.specs.Prelude.{◌≡◌};
 ghost use Rattle.newick.specs.Results.{number_of, result_of, printed};
 
@@ -13,7 +15,7 @@ mod texts;
 mod walks;
 
 // Why no text is written (document 01, "Numbers answered").
-#[derive(Drop)]
+#[derive(Clone, Copy)]
 pub enum Refusal {
     // 1: n is not 1 to 15.
     Relations,
@@ -28,7 +30,7 @@ pub enum Refusal {
 }
 
 // What print answers: the length of the text, or why there is none.
-#[derive(Drop)]
+#[derive(Clone, Copy)]
 pub enum Printed {
     Text { length: usize },
     Refused(Refusal),

@@ -25,9 +25,9 @@ pub fn needed(n: u32) -> usize
 // The tree of `set` written from place `at` on; the place after it.
 pub fn put_tree(lefts: &[u16], set: Set, out: &mut [u8], at: usize) -> usize
     requires walked { Walked lefts.now set.number }
-    requires number_in_bounds { at + length (text (plan_of lefts.now set.number)) ≤ length out.old }
-    ensures value { result ≡ at + length (text (plan_of lefts.now set.number)) }
-    ensures out_after { out.new ≡ sets out.old at (text (plan_of lefts.now set.number)) }
+    requires room { at + length (text (plan_of lefts.now set.number)) ≤ length out.old }
+    ensures end { result ≡ at + length (text (plan_of lefts.now set.number)) }
+    ensures written { out.new ≡ sets out.old at (text (plan_of lefts.now set.number)) }
 {
     if !set.is_larger() {
         return numbers::put_decimal(numbers::wide(set.lowest()), out, at);
