@@ -1,12 +1,11 @@
 -- Lists of entries that say the same: neighbours at two places of the lower triangle may change places (`exchanged_alike`).
 use Prim.Native.Nat.{ℕ, zero, suc, ◌*◌, ◌/◌, ◌-◌, ◌≤◌}
 use native.Mathlib.Omega.{arith}
-use mathlib.Core.Bool.{Bool, true, false, cond, not, ◌&&◌, ◌||◌, true≢false}
+use mathlib.Core.Bool.{Bool, true, false, cond, ◌&&◌, ◌||◌, true≢false}
 use mathlib.Core.List.{List, ◌∷◌}
 use mathlib.Core.Logic.{◌⊎◌, inl, inr, ◌≢◌}
 use mathlib.Core.Path.{◌≡◌, refl, sym, ap, ap₂, ◌∙◌}
 use lib.Dec.{ltb}
-use Rattle.numbers.proofs.Tests.{both}
 use Rattle.relations.specs.Pairs.{place}
 use Rattle.relations.specs.Sets.{MOST}
 use Rattle.relations.proofs.Places.{place_inj}

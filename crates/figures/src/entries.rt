@@ -10,6 +10,7 @@ use crate::{Answer, Figures, Reading, Refusal, lines};
 
 // m entry lines from `start` on, and the end of the text. However many the size line claims, each turn takes bytes of the text, by which
 // the loop is shown to end; and since no place is taken twice, the 121st line is refused at the latest.
+#[tactic(auto, using(crate::proofs::Collected::triangle))]
 pub fn read_entries(text: &[u8], start: usize, n: u32, m: u32) -> Reading
     requires { is_relation MOST n ≡ true }
     ensures { result_of result ≡ entry_lines n m [] start (lines_at text.now start) }
@@ -38,7 +39,8 @@ pub fn read_entries(text: &[u8], start: usize, n: u32, m: u32) -> Reading
         at = next;
         k += 1;
     }
-    if at < text.len() {
+    let bytes_follow = at < text.len();
+    if bytes_follow {
         return without_figures(Answer::Refused(Refusal::Shape, at));
     }
     if !all_seen(seen, n) {
@@ -86,6 +88,7 @@ fn with_entry(figures: Figures, i: u32, j: u32, v: u32) -> Figures
 }
 
 // Whether the entry is a divisor of 0. A row count may be 0.
+#[tactic(auto, using(std::proofs::lemmas::Bool::Decides::nat_tests), unfolding(crate::specs::Entries::zero_divisor))]
 fn is_zero_divisor(i: u32, j: u32, v: u32) -> bool
     ensures { result ≡ zero_divisor (entry i j v) }
 {

@@ -1,4 +1,6 @@
 // Row counts and divisors read from a figures file (document 01, "Figures file").
+#![tactic(auto)]
+
 ghost use Rattle.std.specs.Prelude.{◌≡◌};
 ghost use Rattle.figures.specs.Judge.{number_of, result_of, judged};
 
@@ -12,7 +14,7 @@ mod lines;
 mod words;
 
 // Why a text is refused (document 01, "Figures file").
-#[derive(Drop)]
+#[derive(Clone, Copy)]
 pub enum Refusal {
     // 1: n is not 1 to 15.
     Relations,
@@ -33,14 +35,14 @@ pub enum Refusal {
 }
 
 // Whether the figures were read; or why not, with the start of the line at fault.
-#[derive(Drop)]
+#[derive(Clone, Copy)]
 pub enum Answer {
     Accepted,
     Refused(Refusal, usize),
 }
 
 // The figures of n relations: relation k's row count at place k - 1, and the divisors at their pairs' places. What is past those of n is 0.
-#[derive(Drop)]
+#[derive(Clone, Copy)]
 pub struct Figures {
     pub n: u32,
     pub counts: [u32; 15],
@@ -48,7 +50,7 @@ pub struct Figures {
 }
 
 // What `read` answers. Where the text is refused every figure and n are 0.
-#[derive(Drop)]
+#[derive(Clone, Copy)]
 pub struct Reading {
     pub answer: Answer,
     pub figures: Figures,

@@ -1,6 +1,7 @@
 // The readers of lines (document 01, "Figures file"). A reader is told where its line starts, and answers with the place after it, or with
 // the refusal and the start of the line: "The answer carries the start of the offending line".
 ghost use Rattle.std.specs.Prelude.{◌≡◌, not, [], length};
+ghost use Rattle.relations.specs.Sets.{MOST, is_relation};
 ghost use Rattle.figures.specs.Entries.{in_triangle};
 ghost use Rattle.figures.specs.Judge.{faulty, entry_lines, size_line, comments, judged};
 ghost use Rattle.figures.specs.Inner.{lines_at, passed, told, heading_answer, line_answer, Reads, Onward, Sized, Inside};
@@ -9,7 +10,7 @@ use crate::words::Words;
 use crate::{Answer, Refusal, words};
 
 // Line 1, or the comments: the place after them; or why a line of them is refused, and its start.
-#[derive(Drop)]
+#[derive(Clone, Copy)]
 pub enum Heading {
     Passed(usize),
     Refused(Refusal, usize),
@@ -28,7 +29,7 @@ impl Heading {
 }
 
 // A line of three numbers, and the place after it; or why it is refused, and its start.
-#[derive(Drop)]
+#[derive(Clone, Copy)]
 pub enum Line {
     Numbers(u32, u32, u32, usize),
     Refused(Refusal, usize),
@@ -64,6 +65,7 @@ pub fn first_line(text: &[u8]) -> Heading
 }
 
 // The comments from `at` on, up to the start of the first line that is none. One without its feed is refused.
+#[tactic(auto, using(crate::proofs::Comments::no_comment))]
 pub fn past_comments(text: &[u8], at: usize) -> Heading
     ensures { passed result (λ next. size_line next (lines_at text.now next)) ≡ comments at (lines_at text.now at) }
 {
@@ -83,7 +85,7 @@ pub fn past_comments(text: &[u8], at: usize) -> Heading
 
 // The size line: n, n and the number of entry lines.
 pub fn size_line(text: &[u8], at: usize) -> Line
-    ensures next_value { told result (λ n b m next. entry_lines n m [] next (lines_at text.now next))
+    ensures reads { told result (λ n b m next. entry_lines n m [] next (lines_at text.now next))
         ≡ size_line at (lines_at text.now at) }
     ensures sized { Sized result }
 {
@@ -94,13 +96,24 @@ pub fn size_line(text: &[u8], at: usize) -> Line
     if n != b {
         return Line::Refused(Refusal::Unequal, at);
     }
-    if n < 1 {
-        return Line::Refused(Refusal::Relations, at);
-    }
-    if relations::MOST < n {
+    if !is_relation(n) {
         return Line::Refused(Refusal::Relations, at);
     }
     line
+}
+
+// Whether n is 1 to 15.
+#[tactic(auto, unfolding(relations::specs::Sets::is_relation))]
+fn is_relation(n: u32) -> bool
+    ensures { result ≡ is_relation MOST n }
+{
+    if n < 1 {
+        return false;
+    }
+    if relations::MOST < n {
+        return false;
+    }
+    true
 }
 
 // An entry line of a file of n relations: i, j and v, with (i, j) in the lower triangle.

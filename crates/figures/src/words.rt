@@ -10,14 +10,14 @@ pub const LARGEST: u64 = 4294967295;
 const HELD: u64 = 4294967296;
 
 // A word read: the number that it is, held; or that it is none.
-#[derive(Drop)]
+#[derive(Clone, Copy)]
 pub enum Word {
     Number(u64),
     Refused,
 }
 
 // The words of a line: three numbers, each held; or that they are not.
-#[derive(Drop)]
+#[derive(Clone, Copy)]
 pub enum Words {
     Three(u64, u64, u64),
     Refused,
