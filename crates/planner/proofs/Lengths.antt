@@ -5,7 +5,6 @@ use native.Mathlib.Omega.{arith}
 use mathlib.Core.List.{List}
 use mathlib.Core.Logic.{◌≢◌}
 use mathlib.Core.Path.{◌≡◌, refl, sym, ap, ◌∙◌, subst}
-use lib.ListN.{length}
 use Rattle.relations.specs.Sets.{MOST}
 use Rattle.relations.proofs.Named.{all_is}
 use Rattle.figures.specs.Judge.{judged}

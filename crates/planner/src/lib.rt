@@ -1,4 +1,6 @@
 // From the text of a figures file to a plan: what the program and the C call share (document 01, "Numbers answered").
+#![tactic(auto)]
+
 ghost use Rattle.std.specs.Prelude.{◌≡◌};
 ghost use Rattle.figures.specs.Written.{Proper};
 ghost use Rattle.newick.specs.Results.{printed};
@@ -24,7 +26,7 @@ const NO_PLAN: u32 = 7;
 
 // What is answered: the plan's cost and size and the length of its text, or the number of the refusal, with the place where the reader
 // found it and otherwise 0.
-#[derive(Drop)]
+#[derive(Clone, Copy)]
 pub enum Outcome {
     Plan { cost: u64, size: u32, length: usize },
     Refused { number: u32, place: usize },

@@ -15,7 +15,7 @@ const LIMIT: u64 = 1152921504606846976;
 const MODELS: u32 = 3;
 
 // The bytes to print and how many there are; what is past them is 0.
-#[derive(Drop)]
+#[derive(Clone, Copy)]
 pub struct Output {
     pub bytes: [u8; 512],
     pub length: usize,
@@ -72,8 +72,8 @@ fn refused(number: u32, place: usize) -> Output
 // The line of a refusal written at the start; the place after it.
 fn put_refusal(number: u32, place: usize, out: &mut [u8]) -> usize
     requires { length (refused_line number place) ≤ length out.old }
-    ensures value { result ≡ 0 + length (refused_line number place) }
-    ensures out_after { out.new ≡ sets out.old 0 (refused_line number place) }
+    ensures end { result ≡ 0 + length (refused_line number place) }
+    ensures written { out.new ≡ sets out.old 0 (refused_line number place) }
 {
     let first = put(b"refused ", out, 0);
     let second = numbers::put_decimal(numbers::wide(number), out, first);
@@ -85,8 +85,8 @@ fn put_refusal(number: u32, place: usize, out: &mut [u8]) -> usize
 // The line of a model's plan written from place `at` on; the place after it.
 fn put_line(model: u32, cost: u64, size: u32, tree: &[u8], out: &mut [u8], at: usize) -> usize
     requires { at + length (line_of model cost size tree.now) ≤ length out.old }
-    ensures value { result ≡ at + length (line_of model cost size tree.now) }
-    ensures out_after { out.new ≡ sets out.old at (line_of model cost size tree.now) }
+    ensures end { result ≡ at + length (line_of model cost size tree.now) }
+    ensures written { out.new ≡ sets out.old at (line_of model cost size tree.now) }
 {
     let first = put_spaced(numbers::wide(model), out, at);
     let second = put_spaced(cost, out, first);
@@ -98,8 +98,8 @@ fn put_line(model: u32, cost: u64, size: u32, tree: &[u8], out: &mut [u8], at: u
 // A number and a space after it.
 fn put_spaced(x: u64, out: &mut [u8], at: usize) -> usize
     requires { at + length (spaced x) ≤ length out.old }
-    ensures value { result ≡ at + length (spaced x) }
-    ensures out_after { out.new ≡ sets out.old at (spaced x) }
+    ensures end { result ≡ at + length (spaced x) }
+    ensures written { out.new ≡ sets out.old at (spaced x) }
 {
     let end = numbers::put_decimal(x, out, at);
     put(b" ", out, end)
@@ -108,8 +108,8 @@ fn put_spaced(x: u64, out: &mut [u8], at: usize) -> usize
 // Bytes written from place `at` on; the place after them.
 fn put(text: &[u8], out: &mut [u8], at: usize) -> usize
     requires { at + length text.now ≤ length out.old }
-    ensures value { result ≡ at + length text.now }
-    ensures out_after { out.new ≡ sets out.old at text.now }
+    ensures end { result ≡ at + length text.now }
+    ensures written { out.new ≡ sets out.old at text.now }
 {
     let mut i = 0;
     while i < text.len() {

@@ -1,0 +1,10 @@
+-- The bytes before i are written.
+use Rattle.std.proofs.Common.{◌≡◌, ◌-◌, ◌≤◌, length, take}
+use Rattle.std.proofs.lemmas.List.Edits.{sets}
+use Rattle.planner.proofs.reports.put.Given as goal
+
+abbrev pub invariant-loop-i : goal.invariant-loop-i
+invariant-loop-i l = record { within : l.i ≤ length l.text; written : l.out ≡ sets l.initial.out l.at (take l.i l.text) }
+
+abbrev pub decreases-loop-i : goal.decreases-loop-i
+decreases-loop-i l = length l.text - l.i
