@@ -1,7 +1,7 @@
 // The enums that fill, edits, print and read answer, as the numbers of document 01, "Numbers answered".
 ghost use Rattle.std.specs.Prelude.{◌≡◌};
-ghost use Rattle.table.specs.Results.{answer as planAnswer};
-ghost use Rattle.newick.specs.Results.{answer as textAnswer};
+ghost use Rattle.table.specs.Results.{answer as plan_answer};
+ghost use Rattle.newick.specs.Results.{answer as text_answer};
 ghost use Rattle.figures.specs.Judge.{number_given, place_given};
 
 use figures::Answer;
@@ -11,7 +11,7 @@ use table::Planned;
 // ---- fill and edits
 
 pub fn number_of_plan(found: Planned) -> u32
-    ensures { result ≡ (planAnswer found).number }
+    ensures { result ≡ (plan_answer found).number }
 {
     match found {
         Planned::Plan { cost: _, size: _ } => 0,
@@ -20,7 +20,7 @@ pub fn number_of_plan(found: Planned) -> u32
 }
 
 pub fn cost_of(found: Planned) -> u64
-    ensures { result ≡ (planAnswer found).cost }
+    ensures { result ≡ (plan_answer found).cost }
 {
     match found {
         Planned::Plan {
@@ -32,7 +32,7 @@ pub fn cost_of(found: Planned) -> u64
 }
 
 pub fn size_of(found: Planned) -> u32
-    ensures { result ≡ (planAnswer found).size }
+    ensures { result ≡ (plan_answer found).size }
 {
     match found {
         Planned::Plan {
@@ -46,7 +46,7 @@ pub fn size_of(found: Planned) -> u32
 // ---- print
 
 pub fn number_of_text(found: Printed) -> u32
-    ensures { result ≡ (textAnswer found).number }
+    ensures { result ≡ (text_answer found).number }
 {
     match found {
         Printed::Text { length: _ } => 0,
@@ -55,7 +55,7 @@ pub fn number_of_text(found: Printed) -> u32
 }
 
 pub fn length_of(found: Printed) -> usize
-    ensures { result ≡ (textAnswer found).length }
+    ensures { result ≡ (text_answer found).length }
 {
     match found {
         Printed::Text { length: length } => length,

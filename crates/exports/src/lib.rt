@@ -1,5 +1,7 @@
 // An export of fill, edits, print and read, made for tests and benchmarks only: the customer is offered one C call. Each function answers
 // its number in document 01, 0 for done, and tells through references what else there is to answer.
+#![tactic(auto)]
+
 ghost use Rattle.std.specs.Prelude.{◌≡◌};
 ghost use Rattle.table.specs.Requests.{fill, edit_count, edit_pair};
 ghost use Rattle.table.specs.Results.{called, result as due};

@@ -1,4 +1,6 @@
 // The one call for a C host (document 01, "Numbers answered"). include/buffermoss.h declares it.
+#![tactic(auto)]
+
 ghost use Rattle.std.specs.Prelude.{◌≡◌};
 ghost use Rattle.planner.specs.Plans.{planned};
 ghost use Rattle.host.specs.Returned.{result_of, called};
