@@ -6,12 +6,14 @@ ghost use Rattle.cases.specs.Files.{is_answer, after_line1, answers_to, reads_as
 
 use figures::{Answer, Reading};
 
+#[tactic(auto, unfolding(crate::specs::Files::answers_to))]
 pub fn case_9() {
     after_line_1(b"2 2 1\n1 1 10\n", 12, 64);
     after_line_1(b"2 2 2\n1 1 10\n1 2 5\n", 14, 64);
 }
 
 // Line 1: missing, without its feed, not exact, exact.
+#[tactic(auto, unfolding(crate::specs::Files::answers_to))]
 pub fn first_lines() {
     answers(b"", 11, 0);
     answers(b"%%MatrixMarket matrix coordinate integer symmetric", 11, 0);
@@ -43,6 +45,7 @@ pub fn first_lines() {
 }
 
 // Comments: without a feed, with no size line after them, some, one that does not begin with its sign, one in the wrong place.
+#[tactic(auto, unfolding(crate::specs::Files::answers_to))]
 pub fn comments() {
     after_line_1(b"% 1", 11, 51);
     after_line_1(b"%\n", 11, 53);
@@ -53,6 +56,7 @@ pub fn comments() {
 }
 
 // The shape of a size line, and numbers that are too large.
+#[tactic(auto, unfolding(crate::specs::Files::answers_to))]
 pub fn shapes_of_size_lines() {
     after_line_1(b"", 11, 51);
     after_line_1(b"1 1 1", 11, 51);
@@ -71,6 +75,7 @@ pub fn shapes_of_size_lines() {
 }
 
 // A size line's numbers. One that claims four thousand million entries ends where the text does, or at the first place given twice.
+#[tactic(auto, unfolding(crate::specs::Files::answers_to))]
 pub fn size_lines() {
     after_line_1(b"4294967295 1 1\n", 2, 51);
     after_line_1(b"1 4294967295 1\n", 2, 51);
@@ -83,6 +88,7 @@ pub fn size_lines() {
 }
 
 // The shape of an entry line, and numbers that are too large.
+#[tactic(auto, unfolding(crate::specs::Files::answers_to))]
 pub fn shapes_of_entry_lines() {
     after_line_1(b"1 1 1\n", 11, 57);
     after_line_1(b"1 1 1\n1 1 5", 11, 57);
@@ -100,6 +106,7 @@ pub fn shapes_of_entry_lines() {
 }
 
 // An entry line's place and value.
+#[tactic(auto, unfolding(crate::specs::Files::answers_to))]
 pub fn entry_lines() {
     after_line_1(b"2 2 1\n1 2 4294967296\n", 15, 57);
     after_line_1(b"2 2 1\n4294967295 1 5\n", 14, 57);
@@ -116,6 +123,7 @@ pub fn entry_lines() {
 }
 
 // After the last line: extra bytes, a missing diagonal, both.
+#[tactic(auto, unfolding(crate::specs::Files::answers_to))]
 pub fn ends() {
     after_line_1(b"1 1 1\n1 1 5\n\n", 11, 63);
     after_line_1(b"1 1 1\n1 1 5\n1 1 5\n", 11, 63);
@@ -127,6 +135,7 @@ pub fn ends() {
 }
 
 // The figures that are read: each at its relation's or its pair's place, 1 for the pair that is absent, and 0 past them.
+#[tactic(auto, unfolding(crate::specs::Files::reads_as))]
 pub fn figures_read() {
     let counts: [u32; 15] = [10, 20, 0, 0, 0, 0, 0, 0, 0, 0, 0, 0, 0, 0, 0];
     let mut divisors: [u32; 105] = [0; 105];
@@ -142,6 +151,7 @@ pub fn figures_read() {
 }
 
 // A text that is refused on its last line leaves no figure.
+#[tactic(auto, unfolding(crate::specs::Files::reads_as))]
 pub fn no_figures() {
     reads_as(
         b"%%MatrixMarket matrix coordinate integer symmetric\n2 2 3\n1 1 10\n2 2 20\n2 1 0\n",
@@ -154,27 +164,20 @@ pub fn no_figures() {
 // A number of two thousand digits is a number, and too large.
 pub fn long_number() {
     let mut text = [b'9'; 2056];
-    let start = bytes::copy(
-        b"%%MatrixMarket matrix coordinate integer symmetric\n",
-        &mut text,
-    );
-    let rest = start + 2000;
-    bytes::copy(b" 1 1\n", &mut text[rest..]);
+    text[..51].copy_from_slice(b"%%MatrixMarket matrix coordinate integer symmetric\n");
+    text[2051..].copy_from_slice(b" 1 1\n");
     answers(&text, 15, 51);
 }
 
 // Expects the answer for a text that comes after line 1.
 fn after_line_1(rest: &[u8], number: u32, place: usize)
-    requires rest_len_bound { length rest.now ≤ 77 }
-    requires place_value { answers_to (after_line1 rest.now) number place ≡ true }
+    requires short { length rest.now ≤ 77 }
+    requires answered { answers_to (after_line1 rest.now) number place ≡ true }
 {
     let mut text = [0u8; 128];
-    let start = bytes::copy(
-        b"%%MatrixMarket matrix coordinate integer symmetric\n",
-        &mut text,
-    );
-    let length = bytes::copy(rest, &mut text[start..]);
-    let end = start + length;
+    text[..51].copy_from_slice(b"%%MatrixMarket matrix coordinate integer symmetric\n");
+    let end = 51 + rest.len();
+    text[51..end].copy_from_slice(rest);
     answers(&text[..end], number, place);
 }
 

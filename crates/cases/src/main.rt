@@ -1,18 +1,21 @@
 // Document 01's cases through the real functions. Cases 1 to 8 pass by the definitions as one statement, proofs/Passed.antt.
 // Before a case's first fill each column holds 9 throughout, and none of it is left after; so does the room for a text before it is printed,
 // where 9 is a tab.
-ghost use Rattle.std.specs.Prelude.{true, ◌↔◌, ◌≡◌, eqb};
+#![tactic(auto)]
+
+ghost use Rattle.std.specs.Prelude.{true, ◌↔◌, ◌≡◌, ◌==◌};
 ghost use Rattle.numbers.specs.Texts.{same_list};
 ghost use Rattle.table.specs.Requests.{fill};
 ghost use Rattle.table.specs.Demands.{onto};
 ghost use Rattle.table.specs.Results.{answer, result_of, result as due};
 ghost use Rattle.table.specs.Tables.{columns};
-ghost use Rattle.newick.specs.Results.{answer as printAnswer, printed};
+ghost use Rattle.newick.specs.Results.{answer as print_answer, printed};
 ghost use Rattle.cases.specs.Cases.{Case, passes, is_plan, is_text, Fills, widest, three};
 
 use charges::Charged;
-use libc::STDOUT_FILENO;
 use newick::Printed;
+use std::io;
+use std::io::Write;
 use table::{Planned, Refusal};
 
 // The figures file: case 9 and its neighbours.
@@ -21,7 +24,7 @@ mod files;
 // The limit of the cases that are not about it: the highest, 2^60.
 const LIMIT: u64 = 1152921504606846976;
 
-fn main() {
+fn main(rt: HostRuntime) -> io::Result<()> {
     case_1();
     case_2();
     case_3();
@@ -31,7 +34,7 @@ fn main() {
     case_7();
     case_8();
     files::case_9();
-    case_10();
+    case_10(&mut rt.stdout())?;
     files::first_lines();
     files::comments();
     files::shapes_of_size_lines();
@@ -42,6 +45,7 @@ fn main() {
     files::figures_read();
     files::no_figures();
     files::long_number();
+    Ok(())
 }
 
 // One relation, at limit 0: its plan is itself.
@@ -174,13 +178,13 @@ fn case_8() {
 }
 
 // The program's output for this input, printed: the gate holds it to the file `stdout`.
-fn case_10() {
+fn case_10<W: Write>(out: &mut W) -> io::Result<()> {
     let output = planner::reports::report(
         b"%%MatrixMarket matrix coordinate integer symmetric\n4 4 4\n1 1 10\n2 2 20\n3 3 30\n4 4 40\n",
     );
     let bytes = output.bytes;
     let length = output.length;
-    io::write_all(STDOUT_FILENO, &bytes[..length]);
+    out.write_all(&bytes[..length])
 }
 
 // Whether the answer is a plan of this cost and this size.
@@ -212,7 +216,7 @@ fn are_sizes(column: &[u32], sizes: &[u32]) -> bool
 
 // Whether the answer is that no tree is within the limit.
 fn is_no_plan(found: Planned) -> bool
-    ensures { result ≡ eqb (answer found).number 7 }
+    ensures { result ≡ ((answer found).number == 7) }
 {
     let Planned::Refused(why) = found else {
         return false;
@@ -225,7 +229,7 @@ fn is_no_plan(found: Planned) -> bool
 
 // Whether the answer is that the room is too short.
 fn is_short_text(found: Printed) -> bool
-    ensures { result ≡ eqb (printAnswer found).number 9 }
+    ensures { result ≡ ((print_answer found).number == 9) }
 {
     let Printed::Refused(why) = found else {
         return false;
@@ -249,7 +253,7 @@ fn is_printed(n: u32, costs: &[u64], lefts: &[u16], room: &mut [u8], text: &[u8]
 
 // Whether the answer is a text of this length.
 fn is_text(found: Printed, length: usize) -> bool
-    ensures { result ≡ is_text (printAnswer found) length }
+    ensures { result ≡ is_text (print_answer found) length }
 {
     let Printed::Text { length: l } = found else {
         return false;

@@ -18,7 +18,7 @@ const PRINTED: u64 = 400;
 const FILL: u8 = b'.';
 
 // Figures and a model, and the columns before a fill.
-#[derive(Drop)]
+#[derive(Clone, Copy)]
 struct Job {
     figures: Figures,
     model: u32,

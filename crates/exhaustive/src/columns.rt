@@ -2,14 +2,14 @@
 use crate::{ROWS, sets};
 
 // More rows than any table here has sets: those past the last set are nobody's to write.
-#[derive(Drop)]
+#[derive(Clone, Copy)]
 pub struct Table {
     pub sizes: [u32; ROWS],
     pub costs: [u64; ROWS],
     pub lefts: [u16; ROWS],
 }
 
-#[derive(Drop)]
+#[derive(Clone, Copy)]
 pub struct Row {
     pub size: u32,
     pub cost: u64,
@@ -17,7 +17,7 @@ pub struct Row {
 }
 
 // What a fill or an edit answers, by document 01's number; a cost and a size only with number 0.
-#[derive(Drop)]
+#[derive(Clone, Copy)]
 pub struct Answer {
     pub number: u32,
     pub cost: u64,

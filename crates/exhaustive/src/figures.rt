@@ -2,7 +2,7 @@
 use crate::{MOST, PAIRS, sums};
 
 // The figures of relations 1 to n; places past theirs hold anything.
-#[derive(Drop)]
+#[derive(Clone, Copy)]
 pub struct Figures {
     pub n: u32,
     pub counts: [u32; MOST],
@@ -10,7 +10,7 @@ pub struct Figures {
 }
 
 // What an edit changes: a relation's row count or a pair's divisor.
-#[derive(Drop)]
+#[derive(Clone, Copy)]
 pub enum Edit {
     Count { k: u32, value: u32 },
     Pair { i: u32, j: u32, value: u32 },

@@ -1,6 +1,9 @@
 // The table and the printed tree held against a search over every bushy tree, for few relations. The search has nothing from the table: it
 // grows the trees one by one, and works out sizes and charges by code of its own. What disagrees is counted.
+#![tactic(auto)]
+
 use crate::tally::Tally;
+use std::io;
 
 // Calls of the real functions and what they are held against.
 mod checks;
@@ -48,14 +51,14 @@ const ROWS: usize = 132;
 
 const ROOM: usize = 32;
 
-fn main() {
+fn main(rt: HostRuntime) -> io::Result<()> {
     let mut disagreements = 0;
     for n in 1..=LAST {
         let tally = covered(n);
-        tally::report(n, tally);
+        tally::report(&rt, n, tally)?;
         disagreements = sums::sum(disagreements, tally.disagreements);
     }
-    tally::report_disagreements(disagreements);
+    tally::report_disagreements(&rt, disagreements)
 }
 
 // All that is tried with n relations.

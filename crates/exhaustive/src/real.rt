@@ -9,7 +9,7 @@ use newick::Printed;
 use table::Planned;
 
 // The answer of a fill or an edit, and what it left behind.
-#[derive(Drop)]
+#[derive(Clone, Copy)]
 pub struct Outcome {
     pub answer: Answer,
     pub figures: Figures,

@@ -5,7 +5,7 @@ use crate::trees::Tree;
 use crate::{JOINS, ROWS, columns, sets, sizes, sums, trees};
 
 // The cheapest tree so far, and what it costs.
-#[derive(Drop)]
+#[derive(Clone, Copy)]
 pub struct Best {
     pub cost: u64,
     pub tree: Tree,
@@ -13,7 +13,7 @@ pub struct Best {
 
 // What the search finds of some figures: the rows of their sets within the highest limit, the cheapest tree of all relations, and how many
 // trees were tried.
-#[derive(Drop)]
+#[derive(Clone, Copy)]
 pub struct Found {
     pub table: Table,
     pub tree: Tree,

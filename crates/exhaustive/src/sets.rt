@@ -2,7 +2,7 @@
 use crate::{LAST, MOST};
 
 // The members of a set, lowest first, as the sets of one.
-#[derive(Drop)]
+#[derive(Clone, Copy)]
 pub struct Members {
     pub count: usize,
     pub singles: [u32; MOST],

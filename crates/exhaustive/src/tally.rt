@@ -1,8 +1,8 @@
 // What was covered, and what disagreed.
 use crate::sums;
-use libc::STDOUT_FILENO;
+use std::io;
 
-#[derive(Drop)]
+#[derive(Clone, Copy)]
 pub struct Tally {
     pub figures: u64,
     pub trees: u64,
@@ -69,24 +69,22 @@ impl Tally {
 }
 
 // A line of what was covered with n relations.
-pub fn report(n: u32, tally: Tally) {
-    report_number(b"n = ", n as u64);
-    report_number(b": figures ", tally.figures);
-    report_number(b", trees ", tally.trees);
-    report_number(b", fills ", tally.fills);
-    report_number(b", edits of fresh tables ", tally.fresh);
-    report_number(b", edits of damaged tables ", tally.damaged);
-    report_number(b", prints ", tally.prints);
-    io::write_all(STDOUT_FILENO, b"\n");
+pub fn report(rt: &impl Print, n: u32, tally: Tally) -> io::Result<()> {
+    report_number(rt, "n = ", n as u64)?;
+    report_number(rt, ": figures ", tally.figures)?;
+    report_number(rt, ", trees ", tally.trees)?;
+    report_number(rt, ", fills ", tally.fills)?;
+    report_number(rt, ", edits of fresh tables ", tally.fresh)?;
+    report_number(rt, ", edits of damaged tables ", tally.damaged)?;
+    report_number(rt, ", prints ", tally.prints)?;
+    println!(rt)
 }
 
 // The last line.
-pub fn report_disagreements(disagreements: u64) {
-    io::print_decimal(STDOUT_FILENO, disagreements);
-    io::write_all(STDOUT_FILENO, b" disagreements\n");
+pub fn report_disagreements(rt: &impl Print, disagreements: u64) -> io::Result<()> {
+    println!(rt; "{disagreements} disagreements")
 }
 
-fn report_number(label: &[u8], number: u64) {
-    io::write_all(STDOUT_FILENO, label);
-    io::print_decimal(STDOUT_FILENO, number);
+fn report_number(rt: &impl Print, label: &str, number: u64) -> io::Result<()> {
+    print!(rt; "{label}{number}")
 }

@@ -3,7 +3,7 @@ use crate::columns::Table;
 use crate::{NODES, ROOM, ROWS, sets};
 
 // What print answers, by document 01's number, with the room that it was lent.
-#[derive(Drop)]
+#[derive(Clone, Copy)]
 pub struct Text {
     pub number: u32,
     pub length: usize,
@@ -12,7 +12,7 @@ pub struct Text {
 
 // A walk through the nodes of a tree, a set after the sets that it is a part of: the nodes found so far, the place of each one's text, and the
 // text. It is sound until a set of two or more has no left part in it.
-#[derive(Drop)]
+#[derive(Clone, Copy)]
 struct Walk {
     sound: bool,
     nodes: usize,

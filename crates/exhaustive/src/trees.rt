@@ -4,7 +4,7 @@ use crate::{JOINS, MOST, columns, prices, sets, sums};
 
 // A tree as its joins, in the order in which they were grown: the set that each joins and that set's left part. The right part is what is
 // left of the set, and a part that is no join is a relation. Places past the joins hold 0.
-#[derive(Drop)]
+#[derive(Clone, Copy)]
 pub struct Tree {
     pub sets: [u32; JOINS],
     pub lefts: [u32; JOINS],

@@ -1,0 +1,16 @@
+-- Each check is what the definition computes to.
+use Rattle.std.proofs.Common.{refl, ap}
+use Rattle.table.specs.Results.{Result}
+use Rattle.newick.specs.Results.{Result as Print}
+use Rattle.cases.specs.Cases.{passes, shown}
+use Rattle.cases.proofs.case_1.Goals as goal
+
+pub expect-requires : goal.expect-requires
+unfolding passes
+expect-requires c = rw (c.is_plan.ensures, ap (λ (r : Result). r.answer) c.fill-found.ensures.result) refl
+
+pub expect-requires-2 : goal.expect-requires-2
+unfolding passes
+expect-requires-2 c =
+    let e = ap (λ (r : Result). shown 1 r.table 2) c.fill-found.ensures.result in
+    c.is_printed.ensures.1 (ap (λ (p : Print). p.answer) e, ap (λ (p : Print). p.room) e)
