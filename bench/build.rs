@@ -1,10 +1,10 @@
-//! Finds the exports that `rt staticlib` writes, and the C forms that `bench/run` compiles, from the root of the repository.
+//! Finds the exports that `rt lib` writes, and the C forms that `bench/run` compiles, from the root of the repository.
 use std::path::Path;
 
 fn main() {
     let here = std::env::var("CARGO_MANIFEST_DIR").expect("cargo names this folder");
-    let target = Path::new(&here).join("../target");
-    let (exports, forms) = (target.join("staticlib"), target.join("bench/forms"));
+    let top = Path::new(&here).join("..");
+    let (exports, forms) = (top.join("crates/exports/out"), top.join("target/bench/forms"));
     for folder in [&exports, &forms] {
         println!("cargo:rustc-link-search=native={}", folder.display());
     }

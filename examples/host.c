@@ -1,4 +1,4 @@
-/* A C host. It is built by: rt staticlib host && cc -Iinclude examples/host.c target/staticlib/libhost.a -o target/host-example */
+/* A C host. It is built by: (cd crates/host && rt lib) && cc -Iinclude examples/host.c crates/host/out/libhost.a -o crates/host/out/example */
 #include "buffermoss.h"
 #include <stdio.h>
 

@@ -9,7 +9,7 @@ use std::io::{ErrorKind, Write};
 use std::process::{ChildStdin, Command, Stdio};
 use std::time::Duration;
 
-const PROGRAM: &str = concat!(env!("CARGO_MANIFEST_DIR"), "/../../target/bin/plan");
+const PROGRAM: &str = concat!(env!("CARGO_MANIFEST_DIR"), "/../../crates/plan/out/plan");
 
 const LENGTHS: [usize; 5] = [0, LONGEST - 1, LONGEST, LONGEST + 1, 100_000];
 
@@ -73,7 +73,7 @@ fn run(text: &[u8], piece: usize) -> Vec<u8> {
         .stdin(Stdio::piped())
         .stdout(Stdio::piped())
         .spawn()
-        .expect("target/bin/plan is built by rt check plan");
+        .expect("crates/plan/out/plan is built by rt run");
     let input = program.stdin.take().expect("its input is a pipe");
     hand_over(input, text, piece);
     let output = program.wait_with_output().expect("it ends");
