@@ -1,10 +1,17 @@
-// Case 9 of document 01, and texts on both sides of every edge of a figures file, through the reader. Number 0 at place 0 stands for a text
-// that is accepted.
+// Case 9 of document 01, and texts on both sides of every edge of a figures file, through the reader. The numbers and places are the
+// document's; number 0 at place 0 stands for a text that is accepted.
 ghost use Rattle.std.specs.Prelude.{true, ◌≡◌, ◌≤◌, length};
 ghost use Rattle.figures.specs.Judge.{result_of};
 ghost use Rattle.cases.specs.Files.{is_answer, after_line1, answers_to, reads_as};
 
-use figures::{Answer, Reading};
+use figures::{Fault, Figures};
+
+// A text that is refused says none.
+const NO_FIGURES: Figures = Figures {
+    n: 0,
+    counts: [0; 15],
+    divisors: [0; 105],
+};
 
 #[tactic(auto, unfolding(crate::specs::Files::answers_to))]
 pub fn case_9() {
@@ -137,16 +144,18 @@ pub fn ends() {
 // The figures that are read: each at its relation's or its pair's place, 1 for the pair that is absent, and 0 past them.
 #[tactic(auto, unfolding(crate::specs::Files::reads_as))]
 pub fn figures_read() {
-    let counts: [u32; 15] = [10, 20, 0, 0, 0, 0, 0, 0, 0, 0, 0, 0, 0, 0, 0];
-    let mut divisors: [u32; 105] = [0; 105];
+    let counts = [10, 20, 0, 0, 0, 0, 0, 0, 0, 0, 0, 0, 0, 0, 0];
+    let mut divisors = [0; 105];
     divisors[0] = 10;
     divisors[1] = 1;
     divisors[2] = 7;
     reads_as(
         b"%%MatrixMarket matrix coordinate integer symmetric\n% lifts\n3 3 5\n3 2 7\n1 1 10\n2 1 10\n3 3 0\n2 2 20\n",
-        3,
-        &counts,
-        &divisors,
+        Figures {
+            n: 3,
+            counts,
+            divisors,
+        },
     );
 }
 
@@ -155,9 +164,7 @@ pub fn figures_read() {
 pub fn no_figures() {
     reads_as(
         b"%%MatrixMarket matrix coordinate integer symmetric\n2 2 3\n1 1 10\n2 2 20\n2 1 0\n",
-        0,
-        &[0; 15],
-        &[0; 105],
+        NO_FIGURES,
     );
 }
 
@@ -185,30 +192,22 @@ fn after_line_1(rest: &[u8], number: u32, place: usize)
 fn answers(text: &[u8], number: u32, place: usize)
     requires { answers_to text.now number place ≡ true }
 {
-    let found = figures::read(text);
-    check::expect(is_answer(found, number, place));
+    check::expect(is_answer(figures::read(text), number, place));
 }
 
 // Expects these figures, whatever the answer.
-fn reads_as(text: &[u8], n: u32, counts: &[u32], divisors: &[u32])
-    requires { reads_as text.now n counts.now divisors.now ≡ true }
+fn reads_as(text: &[u8], expected: Figures)
+    requires { reads_as text.now expected.n expected.counts expected.divisors ≡ true }
 {
-    let found = figures::read(text);
-    let read = found.figures;
-    let rows = read.counts;
-    let pairs = read.divisors;
-    check::expect(read.n == n);
-    check::expect(crate::are_sizes(&rows, counts));
-    check::expect(crate::are_sizes(&pairs, divisors));
+    check::expect(figures::read(text).unwrap_or(NO_FIGURES) == expected);
 }
 
 // Whether the reader answered so.
-fn is_answer(found: Reading, number: u32, place: usize) -> bool
+fn is_answer(found: Result<Figures, Fault>, number: u32, place: usize) -> bool
     ensures { result ≡ is_answer (result_of found) number place }
 {
-    let answer = found.answer;
-    let Answer::Refused(why, at) = answer else {
-        return number == 0 && place == 0;
-    };
-    figures::number_of(why) == number && at == place
+    match found {
+        Ok(_) => number == 0 && place == 0,
+        Err(fault) => u32::from(fault.why) == number && fault.at == place,
+    }
 }

@@ -1,7 +1,6 @@
 -- What joining sizes a and b into size o costs beside the two trees (document 01, "Costs").
-use Rattle.std.specs.Prelude.{ℕ, zero, suc, ◌+◌, ◌*◌, ◌/◌, ◌%◌, min, ◌≡◌, refl}
-use Rattle.charges.specs.declared.Charged.{Charged}
-use Rattle.charges.specs.declared.Charged.TheVariants.{At, UnknownModel}
+use Rattle.std.specs.Prelude.{ℕ, zero, suc, ◌+◌, ◌*◌, ◌/◌, ◌%◌, min, Result, Ok, Err, ◌≡◌, refl}
+use Rattle.charges.specs.declared.UnknownModel.{UnknownModel}
 
 -- "up meaning rounded up": the quotient, and one more when a remainder is left.
 unfoldable pub up : ℕ → ℕ → ℕ
@@ -34,9 +33,9 @@ pub record Answer : Type 0 where
   pub number : ℕ
   pub charge : ℕ
 
-abbrev pub answer : Charged → Answer
-answer (At c) = record { number = 0; charge = c }
-answer UnknownModel = record { number = 4; charge = 0 }
+abbrev pub answer : Result ℕ UnknownModel → Answer
+answer (Ok c) = record { number = 0; charge = c }
+answer (Err _) = record { number = 4; charge = 0 }
 
 -- "The model is a number from 0 to 2"; 0, naive, charges o. Any other number is refused with 4.
 unfoldable pub priced : ℕ → ℕ → ℕ → ℕ → Answer

@@ -4,30 +4,30 @@
 ghost use Rattle.std.specs.Prelude.{◌≡◌, ◌+◌, ◌^◌, ◌<◌, ◌≤◌, min};
 ghost use Rattle.charges.specs.Charges.{up, log2, w, sort_merge, disk_loops, priced, answer};
 
-use numbers::{product, wide};
+use numbers::product;
 
-// The charge of a join, or the refusal of a model that there is not.
-#[derive(Clone, Copy)]
-pub enum Charged {
-    At(u64),
-    UnknownModel,
-}
+// The refusal of a model that there is not.
+#[derive(Clone, Copy, Debug, PartialEq, Eq)]
+pub struct UnknownModel;
 
-// The charge under `model` of joining sizes a and b into size o. This is the one list of the models.
-pub fn charge(model: u32, a: u32, b: u32, o: u32) -> Charged
+// The charge under `model` of joining sizes a and b into size o. This is the one list of the models, by number: document 01 names the form
+// ("Which places take which form"), and so a model is its number everywhere.
+#[tactic(auto, using(crate::proofs::Laws::unknown), unfolding(crate::specs::Charges::priced))]
+pub fn charge(model: u32, a: u32, b: u32, o: u32) -> Result<u64, UnknownModel>
     ensures { answer result ≡ priced model a b o }
 {
     match model {
-        0 => Charged::At(wide(o)),
-        1 => Charged::At(sort_merge(a, b)),
-        2 => Charged::At(disk_loops(a, b, o)),
-        3..=4294967295 => Charged::UnknownModel,
+        0 => Ok(u64::from(o)),
+        1 => Ok(sort_merge(a, b)),
+        2 => Ok(disk_loops(a, b, o)),
+        3..=4294967295 => Err(UnknownModel),
     }
 }
 
 // ---- the models
 
 // Model 1.
+#[tactic(auto, using(crate::proofs::Laws::w_bounded), unfolding(crate::specs::Charges::sort_merge))]
 fn sort_merge(a: u32, b: u32) -> u64
     ensures { result ≡ sort_merge a b }
 {
@@ -41,55 +41,48 @@ const BLOCK: u64 = 10;
 const PAIRS: u64 = 9900;
 
 // Model 2: what is written and read back of the result, and what is read of the two parts.
+#[tactic(auto, using(crate::proofs::Rounding::up_near), unfolding(crate::specs::Charges::disk_loops))]
 fn disk_loops(a: u32, b: u32, o: u32) -> u64
     ensures { result ≡ disk_loops a b o }
 {
-    let result = 2 * quick_up(wide(o), BLOCK);
+    let result = 2 * quick_up(u64::from(o), BLOCK);
     let pairs = quick_up(product(a, b), PAIRS);
-    let smaller = quick_up(wide(least(a, b)), BLOCK);
+    let smaller = quick_up(u64::from(a.min(b)), BLOCK);
     result + pairs + smaller
 }
 
 // The work of sorting x rows.
+#[tactic(auto, unfolding(crate::specs::Charges::w))]
 pub fn w(x: u32) -> u64
     ensures { result ≡ w x }
 {
-    wide(x) * (1 + wide(log2(x)))
+    u64::from(x) * (1 + u64::from(log2(x)))
 }
 
-// The whole part of x's base-two logarithm, and 0 for 0: with its last digit set, a number that is not 0 keeps its highest digit,
-// and 0 becomes 1.
+// The whole part of x's base-two logarithm by its leading zeros, as document 01 has it, and 0 for 0: with its last digit set, a number that
+// is not 0 keeps its highest digit, and 0 becomes 1.
+#[tactic(auto, using(crate::proofs::Log::log_leading))]
 fn log2(x: u32) -> u32
     ensures { result ≡ log2 x }
 {
-    31 - u32::leading_zeros(x | 1)
+    31 - (x | 1).leading_zeros()
 }
 
-// x / d, rounded up: the quotient, and one more when a remainder is left. (x + d - 1 would overflow.)
+// x / d, rounded up.
+#[tactic(auto, unfolding(crate::specs::Charges::up))]
 pub fn up(x: u64, d: u64) -> u64
     requires { 0 < d }
     ensures { result ≡ up x d }
 {
-    let q = x / d;
-    if x % d == 0 {
-        return q;
-    }
-    q + 1
+    x.div_ceil(d)
 }
 
-// The same without a test, where x + d - 1 cannot overflow: it stands in the innermost loop.
+// The same where x + d - 1 cannot overflow. It stands in the innermost loop, which takes longer with the test of the remainder that
+// `div_ceil` makes (docs/SPEED.md).
+#[tactic(auto, using(crate::proofs::Rounding::up_quick))]
 fn quick_up(x: u64, d: u64) -> u64
     requires { (0 < d) × (x + d ≤ 2 ^ 64) }
     ensures { result ≡ up x d }
 {
     (x + (d - 1)) / d
-}
-
-fn least(a: u32, b: u32) -> u32
-    ensures { result ≡ min a b }
-{
-    if a < b {
-        return a;
-    }
-    b
 }

@@ -13,6 +13,8 @@ mod columns;
 mod drawn;
 // Row counts and pair figures.
 mod figures;
+// What a call is given, and what it leaves behind.
+mod jobs;
 // The charge of a join.
 mod prices;
 // The real functions.
@@ -25,8 +27,6 @@ mod search;
 mod sets;
 // The size of a set.
 mod sizes;
-// Sums and quotients.
-mod sums;
 // What was covered.
 mod tally;
 // The text of a tree.
@@ -37,7 +37,7 @@ mod trees;
 // The most relations, also as a length.
 const LAST: u32 = 7;
 
-const MOST: usize = 7;
+const MOST: usize = LAST as usize;
 
 // Of so many relations: the pairs, the joins of a tree, and its nodes.
 const PAIRS: usize = 21;
@@ -51,23 +51,27 @@ const ROWS: usize = 132;
 
 const ROOM: usize = 32;
 
+// "The limit is at most 2^60." No tree of 7 relations costs as much.
+const HIGHEST: u64 = 1 << 60;
+
 fn main(rt: HostRuntime) -> io::Result<()> {
-    let mut disagreements = 0;
+    let mut disagreements = 0u64;
     for n in 1..=LAST {
         let tally = covered(n);
-        tally::report(&rt, n, tally)?;
-        disagreements = sums::sum(disagreements, tally.disagreements);
+        println!(rt; "n = {n}: {tally}")?;
+        disagreements = disagreements.saturating_add(tally.disagreements);
     }
-    tally::report_disagreements(&rt, disagreements)
+    println!(rt; "{disagreements} disagreements")
 }
 
 // All that is tried with n relations.
 fn covered(n: u32) -> Tally {
-    let mut tally = Tally::NONE;
+    let mut tally = Tally::default();
     for index in 0..figures_tried(n) {
-        tally = checks::check_figures(tally, drawn::figures(n, index), index);
+        checks::check_figures(&mut tally, drawn::figures(n, index), index);
     }
-    checks::check_prints(tally, n)
+    checks::check_prints(&mut tally, n);
+    tally
 }
 
 // How many figures are tried with n relations: 48 have every kind of count with every kind of divisor, and 8 every kind of count. The time

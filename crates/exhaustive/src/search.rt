@@ -1,19 +1,21 @@
 // The cheapest tree of a set, by trying every tree.
-use crate::columns::{Answer, Row, Table};
-use crate::figures::Figures;
+use crate::columns::{Plan, Row, Table};
+use crate::jobs::Job;
+use crate::prices::Model;
+use crate::sets::Set;
 use crate::trees::Tree;
-use crate::{JOINS, ROWS, columns, sets, sizes, sums, trees};
+use crate::{columns, sets, sizes, trees};
 
-// The cheapest tree so far, and what it costs.
-#[derive(Clone, Copy)]
-pub struct Best {
-    pub cost: u64,
-    pub tree: Tree,
+// A tree, and what it costs. Nothing compares it as a whole, nor what else here has a list in it.
+#[derive(Drop)]
+struct Priced {
+    cost: u64,
+    tree: Tree,
 }
 
-// What the search finds of some figures: the rows of their sets within the highest limit, the cheapest tree of all relations, and how many
+// What the search finds of a job: the rows of its figures' sets within the highest limit, the cheapest tree of all relations, and how many
 // trees were tried.
-#[derive(Clone, Copy)]
+#[derive(Drop)]
 pub struct Found {
     pub table: Table,
     pub tree: Tree,
@@ -21,118 +23,83 @@ pub struct Found {
 }
 
 // The cheapest of every tree of `set`, and of several the one that document 01's rule for ties picks.
-fn cheapest(set: u32, model: u32, sizes: &[u32]) -> Best {
-    let members = sets::members_of(set);
-    let mut best = Best {
-        cost: u64::MAX,
-        tree: Tree {
-            sets: [0; JOINS],
-            lefts: [0; JOINS],
-        },
-    };
-    for number in 0..trees::number_of_trees(members.count) {
-        let tree = trees::grown(members, number);
-        best = better(best, tree, trees::cost(tree, model, sizes));
+fn cheapest(set: Set, model: Model, sizes: &[u32]) -> Priced {
+    let members = sets::members(set);
+    let mut best = Priced::grown(&members, 0, model, sizes);
+    for number in 1..trees::number_of_trees(members.len()) {
+        let other = Priced::grown(&members, number, model, sizes);
+        if other.comes_before(&best) {
+            best = other;
+        }
     }
     best
 }
 
-// The better of the best tree so far and another tree.
-fn better(best: Best, tree: Tree, cost: u64) -> Best {
-    if best.cost < cost {
-        return best;
+impl Priced {
+    fn grown(members: &[u32], number: usize, model: Model, sizes: &[u32]) -> Priced {
+        let tree = trees::grown(members, number);
+        let cost = tree.cost(model, sizes);
+        Priced { cost, tree }
     }
-    if cost == best.cost && !trees::comes_before(tree, best.tree) {
-        return best;
-    }
-    Best {
-        cost: cost,
-        tree: tree,
+
+    fn comes_before(&self, other: &Priced) -> bool {
+        self.cost < other.cost || self.cost == other.cost && self.tree.comes_before(&other.tree)
     }
 }
 
-// The cheapest tree of every set of the figures' relations. Row 0 is zeros, and rows past the last set stay as in `table`.
-pub fn find(figures: Figures, model: u32, table: Table) -> Found {
-    let column = sizes::column(figures);
-    let zeros = Row {
-        size: 0,
-        cost: 0,
-        left: 0,
-    };
-    let mut found = Found {
-        table: columns::with_row(table, 0, zeros),
-        tree: Tree {
-            sets: [0; JOINS],
-            lefts: [0; JOINS],
-        },
-        trees: 0,
-    };
-    for set in 1..sets::sets(figures.n) {
-        let best = cheapest(set, model, &column);
-        found = with_best(found, set, best, sizes::size(figures, set));
+// The cheapest tree of every set of the figures' relations. Row 0 is zeros, and rows past the last set stay as in the job's table. The last
+// set is the full one, so the last tree is that of all relations.
+pub fn find(job: &Job) -> Found {
+    let column = sizes::column(&job.figures);
+    let mut table = job.table;
+    table.set_row(0, Row::default());
+    let mut tree = trees::grown(&[], 0);
+    let mut tried = 0u64;
+    for set in 1..sets::sets(job.figures.n) {
+        let best = cheapest(set, job.model, &column);
+        table.set_row(
+            set,
+            Row {
+                size: columns::at(&column, set),
+                cost: best.cost,
+                left: best.tree.left_part(set).unwrap_or(0),
+            },
+        );
+        tree = best.tree;
+        tried = tried.saturating_add(trees_tried(set));
     }
-    found
-}
-
-// The set's row added, and its best tree taken for that of all relations: the last set is the full one.
-fn with_best(found: Found, set: u32, best: Best, size: u32) -> Found {
-    let tree = best.tree;
-    let row = Row {
-        size: size,
-        cost: best.cost,
-        left: (trees::left_part(tree, set) % 65536) as u16,
-    };
-    let table = columns::with_row(found.table, set, row);
-    let tried = trees::number_of_trees(sets::count(set)) as u64;
     Found {
-        table: table,
-        tree: tree,
-        trees: sums::sum(found.trees, tried),
+        table,
+        tree,
+        trees: tried,
     }
+}
+
+// How many trees of a set are tried.
+pub fn trees_tried(set: Set) -> u64 {
+    trees::number_of_trees(sets::count(set)) as u64
 }
 
 // The plan of all relations.
-pub fn plan(figures: Figures, model: u32) -> Answer {
-    let column = sizes::column(figures);
-    let full = sets::full(figures.n);
-    Answer {
-        number: 0,
-        cost: cheapest(full, model, &column).cost,
-        size: sizes::size(figures, full),
+pub fn plan(job: &Job) -> Plan {
+    let column = sizes::column(&job.figures);
+    let full = sets::full(job.figures.n);
+    Plan {
+        cost: cheapest(full, job.model, &column).cost,
+        size: columns::at(&column, full),
     }
 }
 
-// How many trees are tried for it.
-pub fn trees_tried(n: u32) -> u64 {
-    trees::number_of_trees(sets::count(sets::full(n))) as u64
-}
-
-// The rows as they are within a limit: a set whose cheapest tree costs more has no usable split.
-pub fn within(n: u32, table: Table, limit: u64) -> Table {
-    let mut limited = table;
-    for set in 0..sets::sets(n) {
-        let row = columns::row_of(table, set);
-        if limit < row.cost {
-            limited = columns::with_row(limited, set, columns::unusable(row.size));
+impl Found {
+    // The rows as they are within a limit: a set whose cheapest tree costs more has no usable split.
+    pub fn within(&self, n: u32, limit: u64) -> Table {
+        let mut table = self.table;
+        for set in 0..sets::sets(n) {
+            let row = table.row(set);
+            if limit < row.cost {
+                table.set_row(set, Row::unusable(row.size));
+            }
         }
-    }
-    limited
-}
-
-// The table with no left parts but those of one tree, so that what is printed of it is that tree.
-pub fn with_tree_alone(table: Table, tree: Tree) -> Table {
-    let sizes = table.sizes;
-    let costs = table.costs;
-    let mut lefts = [0; ROWS];
-    for join in 0..JOINS {
-        let at = tree.sets[join] as usize;
-        if at < ROWS {
-            lefts[at] = (tree.lefts[join] % 65536) as u16;
-        }
-    }
-    Table {
-        sizes: sizes,
-        costs: costs,
-        lefts: lefts,
+        table
     }
 }

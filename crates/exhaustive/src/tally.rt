@@ -1,8 +1,7 @@
 // What was covered, and what disagreed.
-use crate::sums;
-use std::io;
+use std::fmt;
 
-#[derive(Clone, Copy)]
+#[derive(Clone, Copy, Debug, Default, PartialEq, Eq)]
 pub struct Tally {
     pub figures: u64,
     pub trees: u64,
@@ -13,78 +12,56 @@ pub struct Tally {
     pub disagreements: u64,
 }
 
-impl Tally {
-    pub const NONE: Tally = Tally {
-        figures: 0,
-        trees: 0,
-        fills: 0,
-        fresh: 0,
-        damaged: 0,
-        prints: 0,
-        disagreements: 0,
-    };
+// What is held against the search or the rule by hand: a fill, an edit of a fresh table, an edit of a damaged one, a print.
+#[derive(Clone, Copy, Debug, PartialEq, Eq)]
+pub enum Call {
+    Fill,
+    FreshEdit,
+    DamagedEdit,
+    Print,
+}
 
+impl Tally {
     // Figures, whose checks follow.
-    pub fn with_figures(mut self) -> Tally {
-        self.figures = sums::sum(self.figures, 1);
-        self
+    pub fn add_figures(&mut self) {
+        self.figures = self.figures.saturating_add(1);
     }
 
     // So many trees searched.
-    pub fn with_trees(mut self, trees: u64) -> Tally {
-        self.trees = sums::sum(self.trees, trees);
-        self
+    pub fn add_trees(&mut self, trees: u64) {
+        self.trees = self.trees.saturating_add(trees);
     }
 
-    // A fill, and whether it agrees.
-    pub fn with_fill(mut self, agrees: bool) -> Tally {
-        self.fills = sums::sum(self.fills, 1);
-        self.judged(agrees)
-    }
-
-    // An edit of a fresh table, and whether it agrees.
-    pub fn with_fresh_edit(mut self, agrees: bool) -> Tally {
-        self.fresh = sums::sum(self.fresh, 1);
-        self.judged(agrees)
-    }
-
-    // An edit of a damaged table, and whether it agrees.
-    pub fn with_damaged_edit(mut self, agrees: bool) -> Tally {
-        self.damaged = sums::sum(self.damaged, 1);
-        self.judged(agrees)
-    }
-
-    // A print, and whether it agrees.
-    pub fn with_print(mut self, agrees: bool) -> Tally {
-        self.prints = sums::sum(self.prints, 1);
-        self.judged(agrees)
-    }
-
-    fn judged(mut self, agrees: bool) -> Tally {
+    // A call, and whether it agrees.
+    pub fn add_call(&mut self, call: Call, agrees: bool) {
+        let count = match call {
+            Call::Fill => &mut self.fills,
+            Call::FreshEdit => &mut self.fresh,
+            Call::DamagedEdit => &mut self.damaged,
+            Call::Print => &mut self.prints,
+        };
+        *count = count.saturating_add(1);
         if !agrees {
-            self.disagreements = sums::sum(self.disagreements, 1);
+            self.disagreements = self.disagreements.saturating_add(1);
         }
-        self
     }
 }
 
-// A line of what was covered with n relations.
-pub fn report(rt: &impl Print, n: u32, tally: Tally) -> io::Result<()> {
-    report_number(rt, "n = ", n as u64)?;
-    report_number(rt, ": figures ", tally.figures)?;
-    report_number(rt, ", trees ", tally.trees)?;
-    report_number(rt, ", fills ", tally.fills)?;
-    report_number(rt, ", edits of fresh tables ", tally.fresh)?;
-    report_number(rt, ", edits of damaged tables ", tally.damaged)?;
-    report_number(rt, ", prints ", tally.prints)?;
-    println!(rt)
-}
-
-// The last line.
-pub fn report_disagreements(rt: &impl Print, disagreements: u64) -> io::Result<()> {
-    println!(rt; "{disagreements} disagreements")
-}
-
-fn report_number(rt: &impl Print, label: &str, number: u64) -> io::Result<()> {
-    print!(rt; "{label}{number}")
+// All but what disagreed, which is told of all lines together.
+impl fmt::Display for Tally {
+    fn fmt<W: fmt::Write>(&self, f: &mut fmt::Formatter<W>) -> fmt::Result {
+        let Tally {
+            figures,
+            trees,
+            fills,
+            fresh,
+            damaged,
+            prints,
+            ..
+        } = *self;
+        write!(
+            f,
+            "figures {figures}, trees {trees}, fills {fills}, edits of fresh tables {fresh}, edits of damaged tables {damaged}, prints {prints}"
+        )
+    }
 }

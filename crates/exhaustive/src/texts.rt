@@ -1,173 +1,126 @@
 // The tree as text (document 01, "Printing the tree"), for fewer than 10 relations: each is one digit.
-use crate::columns::Table;
-use crate::{NODES, ROOM, ROWS, sets};
+ghost use Rattle.std.specs.Prelude.{◌≤◌};
 
-// What print answers, by document 01's number, with the room that it was lent.
-#[derive(Clone, Copy)]
+use crate::columns::Table;
+use crate::jobs::Refusal;
+use crate::sets::Set;
+use crate::{NODES, ROOM, columns, sets};
+use arrayvec::ArrayVec;
+
+// What print answers, the needed length or document 01's number of a refusal, which is what is held to account, with the room that it was
+// lent.
+#[derive(Clone, Copy, Debug, PartialEq, Eq)]
 pub struct Text {
-    pub number: u32,
-    pub length: usize,
+    pub answer: Result<usize, u32>,
     pub room: [u8; ROOM],
 }
 
-// A walk through the nodes of a tree, a set after the sets that it is a part of: the nodes found so far, the place of each one's text, and the
-// text. It is sound until a set of two or more has no left part in it.
-#[derive(Clone, Copy)]
+// A node of a tree, and the place of its text.
+#[derive(Clone, Copy, Debug, Default, PartialEq, Eq)]
+struct Node {
+    set: Set,
+    place: usize,
+}
+
+// A walk through the nodes of a tree, a set after the sets that it is a part of: the nodes that are still to be visited, and the text.
+#[derive(Drop)]
 struct Walk {
-    sound: bool,
-    nodes: usize,
-    sets: [u32; NODES],
-    places: [usize; NODES],
+    nodes: ArrayVec<Node, NODES>,
     text: [u8; ROOM],
 }
 
-// What print has to answer for a table in a room of this length, all of it `fill` before.
-pub fn print(n: u32, table: Table, length: usize, fill: u8) -> Text {
+// What print has to answer for a table in a room of this length, all of it `fill` before. With a refusal nothing is written.
+pub fn print(n: u32, table: &Table, length: usize, fill: u8) -> Text {
+    match written(n, table, length, fill) {
+        Ok(room) => Text {
+            answer: Ok(needed(n)),
+            room,
+        },
+        Err(why) => Text {
+            answer: Err(u32::from(why)),
+            room: [fill; ROOM],
+        },
+    }
+}
+
+// The room with the text in it. No tree has more than NODES nodes, so all are visited, and the bound ends the walk of a damaged table.
+fn written(n: u32, table: &Table, length: usize, fill: u8) -> Result<[u8; ROOM], Refusal> {
+    if length < needed(n) {
+        return Err(Refusal::ShortRoom);
+    }
+    if table.plan(n).is_none() {
+        return Err(Refusal::NoPlan);
+    }
     let full = sets::full(n);
-    let needed = needed(n);
-    if length < needed {
-        return refused(9, fill);
+    let mut walk = Walk {
+        nodes: ArrayVec::new(),
+        text: [fill; ROOM],
+    };
+    walk.add(Node {
+        set: full,
+        place: 0,
+    });
+    for _ in 0..NODES {
+        if let Some(node) = walk.nodes.pop() {
+            walk.visit(node, &table.lefts)?;
+        }
     }
-    let at = full as usize;
-    if at < ROWS && table.costs[at] == u64::MAX {
-        return refused(7, fill);
-    }
-    let lefts = table.lefts;
-    let walk = walked(full, &lefts, fill);
-    if !walk.sound {
-        return refused(10, fill);
-    }
-    let done = with_byte(walk, span(full), b';');
-    let room = done.text;
-    Text {
-        number: 0,
-        length: needed,
-        room: room,
-    }
+    walk.write(span(full), b';');
+    Ok(walk.text)
 }
 
 // The needed length.
 pub fn needed(n: u32) -> usize {
-    past(span(sets::full(n)), 1)
-}
-
-// A refusal: nothing is written.
-fn refused(number: u32, fill: u8) -> Text {
-    Text {
-        number: number,
-        length: 0,
-        room: [fill; ROOM],
-    }
+    span(sets::full(n)) + 1
 }
 
 // How long a set's tree is in the text: its digits, and three bytes for each join.
-fn span(set: u32) -> usize {
-    let members = sets::count(set) % 8;
-    if members == 0 {
-        return 0;
+fn span(set: Set) -> usize
+    ensures { result ≤ 25 }
+{
+    (4 * sets::count(set)).saturating_sub(3)
+}
+
+impl Walk {
+    // The text of one node written, but for its parts, which become nodes to visit. No tree: a set of two or more has no left part in it.
+    fn visit(&mut self, node: Node, lefts: &[Set]) -> Result<(), Refusal> {
+        let Node { set, place } = node;
+        if let [k] = sets::members(set).as_slice() {
+            self.write(place, b'0' + (*k % 10) as u8);
+            return Ok(());
+        }
+        let left = columns::at(lefts, set);
+        if left == 0 || left == set || !sets::holds(set, left) {
+            return Err(Refusal::NoTree);
+        }
+        let right = set ^ left;
+        let left_place = place.wrapping_add(1);
+        let comma = left_place.wrapping_add(span(left));
+        let right_place = comma.wrapping_add(1);
+        let close = right_place.wrapping_add(span(right));
+        self.write(place, b'(');
+        self.write(comma, b',');
+        self.write(close, b')');
+        self.add(Node {
+            set: left,
+            place: left_place,
+        });
+        self.add(Node {
+            set: right,
+            place: right_place,
+        });
+        Ok(())
     }
-    4 * members - 3
-}
 
-// The place so many bytes past another.
-fn past(place: usize, bytes: usize) -> usize {
-    std::num::wrapping_add_usize(place, bytes)
-}
-
-// The walk from `set` by the left parts of a column.
-fn walked(set: u32, lefts: &[u16], fill: u8) -> Walk {
-    let mut walk = Walk {
-        sound: true,
-        nodes: 0,
-        sets: [0; NODES],
-        places: [0; NODES],
-        text: [fill; ROOM],
-    };
-    walk = with_node(walk, set, 0);
-    for node in 0..NODES {
-        if walk.sound && node < walk.nodes {
-            walk = visited(walk, node, lefts);
+    fn write(&mut self, place: usize, byte: u8) {
+        if let Some(there) = self.text.get_mut(place) {
+            *there = byte;
         }
     }
-    walk
-}
 
-// The text of one node written, but for its parts, which become nodes to visit.
-fn visited(walk: Walk, node: usize, lefts: &[u16]) -> Walk {
-    if NODES <= node {
-        return walk;
-    }
-    let set = walk.sets[node];
-    let place = walk.places[node];
-    if sets::count(set) < 2 {
-        return with_byte(walk, place, digit(set));
-    }
-    let left = left_part(lefts, set);
-    if left == 0 || left == set || !sets::holds(set, left) {
-        return unsound(walk);
-    }
-    let right = set ^ left;
-    let left_place = past(place, 1);
-    let comma = past(left_place, span(left));
-    let right_place = past(comma, 1);
-    let close = past(right_place, span(right));
-    let opened = with_byte(walk, place, b'(');
-    let parted = with_byte(opened, comma, b',');
-    let closed = with_byte(parted, close, b')');
-    with_node(with_node(closed, left, left_place), right, right_place)
-}
-
-// The digit of a set of one.
-fn digit(set: u32) -> u8 {
-    let mut digit = b'0';
-    for k in 1..=9 {
-        if sets::single(k) == set {
-            digit = b'0' + (k % 10) as u8;
+    fn add(&mut self, node: Node) {
+        if !self.nodes.is_full() {
+            self.nodes.push(node);
         }
     }
-    digit
-}
-
-fn left_part(lefts: &[u16], set: u32) -> u32 {
-    let at = set as usize;
-    if at < lefts.len() { wide(lefts[at]) } else { 0 }
-}
-
-fn wide(x: u16) -> u32 {
-    x as u32
-}
-
-fn unsound(mut walk: Walk) -> Walk {
-    walk.sound = false;
-    walk
-}
-
-fn with_byte(mut walk: Walk, place: usize, byte: u8) -> Walk {
-    if place < ROOM {
-        walk.text[place] = byte;
-    }
-    walk
-}
-
-fn with_node(mut walk: Walk, set: u32, place: usize) -> Walk {
-    let at = walk.nodes;
-    if at < NODES {
-        walk.sets[at] = set;
-        walk.places[at] = place;
-        walk.nodes = at + 1;
-    }
-    walk
-}
-
-// Whether the answers are the same, to the last byte of the room.
-pub fn same_text(a: Text, b: Text) -> bool {
-    if a.number != b.number || a.length != b.length {
-        return false;
-    }
-    for at in 0..ROOM {
-        if a.room[at] != b.room[at] {
-            return false;
-        }
-    }
-    true
 }

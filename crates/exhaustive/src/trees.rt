@@ -1,13 +1,20 @@
 // Every bushy tree, by growing it leaf by leaf.
-use crate::sets::Members;
-use crate::{JOINS, MOST, columns, prices, sets, sums};
+use crate::prices::Model;
+use crate::sets::Set;
+use crate::{JOINS, ROWS, columns, sets};
+use arrayvec::ArrayVec;
 
-// A tree as its joins, in the order in which they were grown: the set that each joins and that set's left part. The right part is what is
-// left of the set, and a part that is no join is a relation. Places past the joins hold 0.
-#[derive(Clone, Copy)]
+// A set that is joined, and its left part. The right part is what is left of the set, and a part that is no join is a relation.
+#[derive(Clone, Copy, Debug, Default, PartialEq, Eq)]
+struct Join {
+    set: Set,
+    left: Set,
+}
+
+// A tree as its joins, in the order in which they were grown.
+#[derive(Drop)]
 pub struct Tree {
-    pub sets: [u32; JOINS],
-    pub lefts: [u32; JOINS],
+    joins: ArrayVec<Join, JOINS>,
 }
 
 // How many trees there are of so many relations: (2m-2)!/(m-1)!.
@@ -27,101 +34,91 @@ pub fn number_of_trees(m: usize) -> usize {
 // has by then, a relation or a join, to the left or to the right of it: after so many joins there are that many and one relations, and
 // the digits of the number, to these changing bases, say which and where. Taking the last member away again gives the tree before it, so
 // every tree has one number and no other.
-pub fn grown(members: Members, number: usize) -> Tree {
+pub fn grown(members: &[u32], number: usize) -> Tree {
     let mut tree = Tree {
-        sets: [0; JOINS],
-        lefts: [0; JOINS],
+        joins: ArrayVec::new(),
     };
     let mut rest = number;
-    for joins in 0..JOINS {
-        let leaf = member(members, joins + 1);
-        if leaf != 0 {
-            let nodes = 2 * joins + 1;
-            let node = node_at(tree, members, joins, rest % nodes);
-            rest /= nodes;
-            tree = beside(tree, joins, node, leaf, rest % 2 == 0);
-            rest /= 2;
-        }
+    for leaf in members.iter().skip(1) {
+        let nodes = 2 * tree.joins.len() + 1;
+        let node = tree.node(members, rest % nodes);
+        rest /= nodes;
+        tree.put(sets::single(*leaf), node, rest % 2 == 0);
+        rest /= 2;
     }
     tree
 }
 
-// The member at a place counted from 0, and 0 past the last.
-fn member(members: Members, at: usize) -> u32 {
-    if at < MOST { members.singles[at] } else { 0 }
-}
-
-// The set of a node of a tree of so many joins: the relations come first.
-fn node_at(tree: Tree, members: Members, joins: usize, at: usize) -> u32 {
-    if at <= joins {
-        return member(members, at);
-    }
-    let join = at - joins - 1;
-    if join < JOINS { tree.sets[join] } else { 0 }
-}
-
-// The tree with a new join, of `node` and `leaf`, in the node's place. The sets above the node, and the parts that it is in, gain the leaf.
-fn beside(tree: Tree, joins: usize, node: u32, leaf: u32, first: bool) -> Tree {
-    let mut sets = tree.sets;
-    let mut lefts = tree.lefts;
-    for at in 0..JOINS {
-        let above = sets[at] != node && sets::holds(sets[at], node);
-        if above && sets::holds(lefts[at], node) {
-            lefts[at] = lefts[at] | leaf;
+impl Tree {
+    // The set of a node of a tree of the first of these members: the relations come first.
+    fn node(&self, members: &[u32], at: usize) -> Set {
+        let joins = self.joins.len();
+        if at <= joins {
+            return members.get(at).map_or(0, |k| sets::single(*k));
         }
-        if above {
-            sets[at] = sets[at] | leaf;
+        self.joins.get(at - joins - 1).map_or(0, |join| join.set)
+    }
+
+    // A new join, of `leaf` and `node`, in the node's place. The sets above the node, and the parts that it is in, gain the leaf.
+    fn put(&mut self, leaf: Set, node: Set, first: bool) {
+        for join in self.joins.iter_mut() {
+            let above = join.set != node && sets::holds(join.set, node);
+            if above && sets::holds(join.left, node) {
+                join.left |= leaf;
+            }
+            if above {
+                join.set |= leaf;
+            }
         }
-    }
-    if joins < JOINS {
-        sets[joins] = node | leaf;
-        lefts[joins] = if first { leaf } else { node };
-    }
-    Tree {
-        sets: sets,
-        lefts: lefts,
-    }
-}
-
-// What the tree costs: the charges of its joins, since a relation costs 0 and a join its two trees and its charge. The empty set's size is 0,
-// and places past the joins are charged nothing.
-pub fn cost(tree: Tree, model: u32, sizes: &[u32]) -> u64 {
-    let mut total = 0;
-    for at in 0..JOINS {
-        let set = tree.sets[at];
-        let left = tree.lefts[at];
-        let a = columns::size_at(sizes, left);
-        let b = columns::size_at(sizes, set ^ left);
-        let o = columns::size_at(sizes, set);
-        total = sums::sum(total, prices::charge(model, a, b, o));
-    }
-    total
-}
-
-// The left part into which the tree splits `set`, and 0 where it does not join that set.
-pub fn left_part(tree: Tree, set: u32) -> u32 {
-    for at in 0..JOINS {
-        if tree.sets[at] == set {
-            return tree.lefts[at];
+        if !self.joins.is_full() {
+            self.joins.push(Join {
+                set: node | leaf,
+                left: if first { leaf } else { node },
+            });
         }
     }
-    0
-}
 
-// Whether, of two trees that cost the same, `tree` is the one to record: at the highest set that both join, and join differently, its left
-// part has the lesser number. (Document 01 settles ties set by set. The tree that it picks has, at each of its sets, the least left part
-// that any of the cheapest trees has there; so it wins against each of them, wherever the two are held against each other.)
-pub fn comes_before(tree: Tree, other: Tree) -> bool {
-    let mut highest = 0;
-    let mut before = false;
-    for at in 0..JOINS {
-        let set = tree.sets[at];
-        let left = tree.lefts[at];
-        let other_left = left_part(other, set);
-        if highest < set && other_left != 0 && other_left != left {
-            highest = set;
-            before = left < other_left;
+    // What the tree costs: the charges of its joins, since a relation costs 0 and a join its two trees and its charge.
+    pub fn cost(&self, model: Model, sizes: &[u32]) -> u64 {
+        let mut total = 0u64;
+        for join in &self.joins {
+            let a = columns::at(sizes, join.left);
+            let b = columns::at(sizes, join.set ^ join.left);
+            let o = columns::at(sizes, join.set);
+            total = total.saturating_add(model.charge(a, b, o));
         }
+        total
     }
-    before
+
+    // The left part into which the tree splits `set`, where it joins that set.
+    pub fn left_part(&self, set: Set) -> Option<Set> {
+        self.joins
+            .iter()
+            .find(|join| join.set == set)
+            .map(|join| join.left)
+    }
+
+    // Whether, of two trees that cost the same, this is the one to record: at the highest set that both join, and join differently, its left
+    // part has the lesser number. (Document 01 settles ties set by set. The tree that it picks has, at each of its sets, the least left part
+    // that any of the cheapest trees has there; so it wins against each of them, wherever the two are held against each other.)
+    pub fn comes_before(&self, other: &Tree) -> bool {
+        self.joins
+            .iter()
+            .filter_map(|join| Some((*join, other.left_part(join.set)?)))
+            .filter(|(join, left)| join.left != *left)
+            .max_by_key(|(join, _)| join.set)
+            .is_some_and(|(join, left)| join.left < left)
+    }
+
+    // A column that has no left parts but the tree's, so that what is printed of it is the tree.
+    pub fn lefts(&self) -> [Set; ROWS] {
+        let mut lefts = [0; ROWS];
+        for join in &self.joins {
+            let at = usize::from(join.set);
+            if at < ROWS {
+                lefts[at] = join.left;
+            }
+        }
+        lefts
+    }
 }

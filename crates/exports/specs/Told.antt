@@ -2,14 +2,17 @@
 use Rattle.std.specs.Prelude.{ℕ, List}
 use Rattle.table.specs.Figures.{figures}
 use Rattle.table.specs.Tables.{columns}
-use Rattle.table.specs.Results.{Result}
+use Rattle.table.specs.Results.{Answer, Result}
 use Rattle.newick.specs.Results.{Result as PrintResult}
 use Rattle.figures.specs.Judge.{Result as ReadResult}
 
 -- Of a fill or an edit.
+abbrev pub answered : ℕ → ℕ → ℕ → Answer
+answered number cost size = record { number = number; cost = cost; size = size }
+
 abbrev pub plan : ℕ → ℕ → ℕ → List ℕ → List ℕ → List ℕ → List ℕ → List ℕ → Result
 plan number cost size counts divisors sizes costs lefts = record {
-  answer = record { number = number; cost = cost; size = size };
+  answer = answered number cost size;
   figures = figures counts divisors;
   table = columns sizes costs lefts;
 }

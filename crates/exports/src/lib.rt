@@ -1,16 +1,15 @@
 // An export of fill, edits, print and read, made for tests and benchmarks only: the customer is offered one C call. Each function answers
-// its number in document 01, 0 for done, and tells through references what else there is to answer.
+// its number in document 01, 0 for done, and tells through references what else there is to answer. The parameters are what C hands over.
 #![tactic(auto)]
 
 ghost use Rattle.std.specs.Prelude.{◌≡◌};
 ghost use Rattle.table.specs.Requests.{fill, edit_count, edit_pair};
-ghost use Rattle.table.specs.Results.{called, result as due};
+ghost use Rattle.table.specs.Results.{called, answer, result as due};
 ghost use Rattle.newick.specs.Results.{printed};
 ghost use Rattle.figures.specs.Judge.{judged};
-ghost use Rattle.exports.specs.Told.{plan, text as text_of, reading};
+ghost use Rattle.exports.specs.Told.{answered, plan, text as text_of, reading};
 
-// The enums that are answered, as numbers.
-mod answers;
+use table::{Plan, Refusal};
 
 #[unsafe(no_mangle)]
 pub extern "C" fn buffermoss_test_fill(
@@ -31,9 +30,7 @@ pub extern "C" fn buffermoss_test_fill(
         (called n counts.now divisors.now model limit sizes.old costs.old lefts.old) }
 {
     let found = table::fill(n, counts, divisors, model, limit, sizes, costs, lefts);
-    *cost = answers::cost_of(found);
-    *size = answers::size_of(found);
-    answers::number_of_plan(found)
+    told(found, cost, size)
 }
 
 #[unsafe(no_mangle)]
@@ -59,9 +56,7 @@ pub extern "C" fn buffermoss_test_edit_count(
     let found = table::edit_count(
         n, counts, divisors, model, limit, sizes, costs, lefts, k, value,
     );
-    *cost = answers::cost_of(found);
-    *size = answers::size_of(found);
-    answers::number_of_plan(found)
+    told(found, cost, size)
 }
 
 #[unsafe(no_mangle)]
@@ -88,9 +83,7 @@ pub extern "C" fn buffermoss_test_edit_pair(
     let found = table::edit_pair(
         n, counts, divisors, model, limit, sizes, costs, lefts, i, j, value,
     );
-    *cost = answers::cost_of(found);
-    *size = answers::size_of(found);
-    answers::number_of_plan(found)
+    told(found, cost, size)
 }
 
 #[unsafe(no_mangle)]
@@ -104,11 +97,19 @@ pub extern "C" fn buffermoss_test_print(
     ensures { text_of result length.new text.new
         ≡ printed n costs.now lefts.now text.old }
 {
-    let found = newick::print(n, costs, lefts, text);
-    *length = answers::length_of(found);
-    answers::number_of_text(found)
+    match newick::print(n, costs, lefts, text) {
+        Ok(end) => {
+            *length = end;
+            0
+        }
+        Err(why) => {
+            *length = 0;
+            u32::from(why)
+        }
+    }
 }
 
+#[tactic(auto, unfolding(figures::specs::Entries::no_figures))]
 #[unsafe(no_mangle)]
 pub extern "C" fn buffermoss_test_read(
     text: &[u8],
@@ -120,14 +121,40 @@ pub extern "C" fn buffermoss_test_read(
     ensures { reading result place.new n.new counts.new divisors.new
         ≡ judged text.now }
 {
-    let found = figures::read(text);
-    let read = found.figures;
-    *n = read.n;
-    let rows = read.counts;
-    let pairs = read.divisors;
-    *counts = rows;
-    *divisors = pairs;
-    let answer = found.answer;
-    *place = answers::place_of(answer);
-    answers::number_of_reading(answer)
+    match figures::read(text) {
+        Ok(read) => {
+            *place = 0;
+            *n = read.n;
+            let rows = read.counts;
+            let pairs = read.divisors;
+            *counts = rows;
+            *divisors = pairs;
+            0
+        }
+        Err(fault) => {
+            *place = fault.at;
+            *n = 0;
+            *counts = [0; 15];
+            *divisors = [0; 105];
+            u32::from(fault.why)
+        }
+    }
+}
+
+// What a fill or an edit answers: its number, and through the references the plan's cost and size.
+fn told(found: Result<Plan, Refusal>, cost: &mut u64, size: &mut u32) -> u32
+    ensures { answered result cost.new size.new ≡ answer found }
+{
+    match found {
+        Ok(plan) => {
+            *cost = plan.cost;
+            *size = plan.size;
+            0
+        }
+        Err(why) => {
+            *cost = 0;
+            *size = 0;
+            u32::from(why)
+        }
+    }
 }

@@ -9,10 +9,11 @@ use lib.Dec.{eqb}
 use lib.ListN.{length, take, drop, get_or, length-drop, drop_of_length-le}
 use lib.Seq.{drop-cons, length-take-le}
 use borrow.Author.Tests.{eq-eqb, ne_eqb}
+use Rattle.std.specs.Prelude.{Some, None}
 use Rattle.figures.specs.Lines.{FEED, PERCENT, onto, split}
 use Rattle.figures.specs.Judge.{refused, on_line, size_line, is_comment, comments}
-use Rattle.figures.specs.Inner.{up_to, lines_at}
-use Rattle.figures.proofs.Cutting.{some-piece, up_more, found, unfound}
+use Rattle.figures.specs.Inner.{first_of, lines_at}
+use Rattle.figures.proofs.Cutting.{some-piece, later, first_piece, only_piece}
 
 -- ---- a line that is no comment
 
@@ -44,27 +45,22 @@ module _ (text : List ℕ) (at : ℕ) where
   pub no_line : length text ≤ at → comments at (lines_at text at) ≡ size_line at (lines_at text at)
   no_line l = rw (drop_of_length-le text l) (none_in at [] (λ e. omega arith))
 
-  module _ (end : ℕ) (e : end ≡ at + up_to FEED (drop at text)) where
-    pub no_feed : length text ≤ end → comments at (lines_at text at) ≡ refused 11 at
-    unfolding comments size_line on_line
-    no_feed l = rw (unfound FEED at end text e l)
+  pub no_feed : None ≡ first_of FEED (drop at text) → comments at (lines_at text at) ≡ refused 11 at
+  unfolding comments size_line on_line
+  no_feed e = rw (only_piece FEED at text e)
 
-    module _ (l : end < length text) (b : get_or text at 0 ≡ PERCENT) where
-      in_text : at < length text
-      in_text = omega arith
+  module _ (len : ℕ) (e : Some len ≡ first_of FEED (drop at text)) (l : at + len < length text) (b : get_or text at 0 ≡ PERCENT) where
+    abbrev line : List ℕ
+    line = take len (drop at text)
 
-      is_comment_lem : is_comment (take (end - at) (drop at text)) ≡ true
-      unfolding is_comment
-      is_comment_lem =
-          let k : ℕ = up_to FEED (drop (suc at) text) in
-          let q : end - at ≡ suc k = omega (arith, up_more FEED at text in_text (λ f. omega arith)) in
-          rw (q, drop-cons text at 0 in_text) (eq-eqb (get_or text at 0) PERCENT b)
+    is_comment_lem : is_comment line ≡ true
+    unfolding is_comment
+    is_comment_lem =
+        let k : len ≡ suc (len - 1) = omega (arith, later FEED at len text e (omega arith) (λ f. omega arith)) in
+        rw (k, drop-cons text at 0 (omega arith)) (eq-eqb (get_or text at 0) PERCENT b)
 
-      long : at + length (take (end - at) (drop at text)) + 1 ≡ end + 1
-      long = omega (arith, length-take-le (end - at) (drop at text) (omega (arith, length-drop at text)))
-
-      pub comment_passed : comments at (lines_at text at) ≡ comments (end + 1) (lines_at text (end + 1))
-      comment_passed =
-          ap (comments at) (found FEED at end text e l)
-          ∙ comment_fed at (take (end - at) (drop at text)) (drop (end + 1) text) is_comment_lem
-          ∙ ap (λ (next : ℕ). comments next (lines_at text (end + 1))) long
+    pub comment_passed : comments at (lines_at text at) ≡ comments (at + len + 1) (lines_at text (at + len + 1))
+    comment_passed =
+        ap (comments at) (first_piece FEED at len text e)
+        ∙ comment_fed at line (drop (at + len + 1) text) is_comment_lem
+        ∙ ap (λ (k : ℕ). comments (at + k + 1) (lines_at text (at + len + 1))) (length-take-le len (drop at text) (omega (arith, length-drop at text)))

@@ -1,23 +1,16 @@
 -- A word read digit by digit, with its value held.
 use Prim.Native.Nat.{ℕ, suc, ◌+◌, ◌-◌, ◌*◌, ◌≤◌, ◌<◌}
 use native.Mathlib.Omega.{arith}
-use mathlib.Core.Bool.{Bool, true, false, cond, ◌&&◌, false≢true, true≢false}
+use mathlib.Core.Bool.{Bool, true, false, cond, ◌&&◌}
 use mathlib.Core.List.{List, [], ◌∷◌}
 use mathlib.Core.Path.{◌≡◌, refl, sym, ap, ◌∙◌}
-use lib.Dec.{leb}
 use lib.ListN.{length, drop, get_or}
 use lib.Seq.{drop-cons}
-use borrow.Author.Tests.{leb-true, eq-eqb, ne_eqb}
+use borrow.Author.Tests.{eq-eqb, ne_eqb}
+use Rattle.std.specs.Prelude.{Some, None}
 use Rattle.numbers.specs.Texts.{is_digit, value}
-use Rattle.numbers.proofs.Tests.{first_true}
 use Rattle.figures.specs.Lines.{all_digits, is_number}
 use Rattle.figures.specs.Inner.{held, word_of}
-use Rattle.figures.specs.declared.words.Word.{Word}
-use Rattle.figures.specs.declared.words.Word.TheVariants as word
-
-pub digit_low : (c : ℕ) → is_digit c ≡ true → 48 ≤ c
-unfolding is_digit
-digit_low c e = leb-true 48 c (first_true (leb 48 c) (leb c 57) e)
 
 -- ---- digit by digit
 
@@ -72,29 +65,20 @@ digits_number (c ∷ []) l z = one (is_digit c)
     one false = refl
 digits_number (c ∷ d ∷ cs) l z = rw (ne_eqb c 48 (λ e. let h = z e in omega arith))
 
--- ---- a word that was read
+-- ---- a word that was read: only a number is, as its value, held
 
--- What it says is the word's value, held; and only a number is read.
-is_read : Word → Bool
-is_read (word.Number v) = true
-is_read word.Refused = false
-
-said_by : Word → ℕ
-said_by (word.Number v) = v
-said_by word.Refused = 0
-
-pub word_said : (w : List ℕ) (v : ℕ) → word_of w ≡ word.Number v → (is_number w ≡ true) × (held (value 0 w) ≡ v)
-unfolding word_of is_read said_by
+pub word_said : (w : List ℕ) (v : ℕ) → word_of w ≡ Some v → (is_number w ≡ true) × (held (value 0 w) ≡ v)
+unfolding word_of
 word_said w v e = by (is_number w) e
   where
-    by : (t : Bool) → cond t (word.Number (held (value 0 w))) word.Refused ≡ word.Number v → (t ≡ true) × (held (value 0 w) ≡ v)
-    by true h = (refl, ap said_by h)
-    by false h = absurd (false≢true (ap is_read h))
+    by : (t : Bool) → cond t (Some (held (value 0 w))) None ≡ Some v → (t ≡ true) × (held (value 0 w) ≡ v)
+    by true h = (refl, cc)
+    by false h = absurd (cc)
 
-pub word_none : (w : List ℕ) → word_of w ≡ word.Refused → is_number w ≡ false
-unfolding word_of is_read
+pub word_none : (w : List ℕ) → word_of w ≡ None → is_number w ≡ false
+unfolding word_of
 word_none w e = by (is_number w) e
   where
-    by : (t : Bool) → cond t (word.Number (held (value 0 w))) word.Refused ≡ word.Refused → t ≡ false
-    by true h = absurd (true≢false (ap is_read h))
+    by : (t : Bool) → cond t (Some (held (value 0 w))) None ≡ None → t ≡ false
+    by true h = absurd (cc)
     by false h = refl

@@ -10,6 +10,7 @@ use borrow.Author.Tests.{eq-eqb, eqb-true, not-true}
 use Rattle.numbers.proofs.Tests.{first_true, second_true}
 use Rattle.figures.specs.Lines.{FEED, onto, split}
 use Rattle.figures.specs.Written.{fed}
+use Rattle.figures.proofs.Cutting.{some-piece}
 
 -- ---- what was put together is cut apart
 
@@ -75,18 +76,7 @@ unfolding joined each_after
 split-joined b w [] h = ap (split b) (append-nil w) ∙ split-last b w h.0
 split-joined b w (v ∷ vs) h = split-piece b w (v ++ each_after b vs) h.0 ∙ ap (λ (r : List (List ℕ)). w ∷ r) (split-joined b v vs h.1)
 
--- A text has a piece,
-some_first : (c : ℕ) (t : Bool) (ws : List (List ℕ)) → 0 < length ws → 0 < length (cond t ([] ∷ ws) (onto c ws))
-some_first c true ws h = omega arith
-some_first c false [] h = h
-some_first c false (w ∷ ws) h = h
-
-split-some : (b : ℕ) (xs : List ℕ) → 0 < length (split b xs)
-unfolding split
-split-some b [] = omega arith
-split-some b (c ∷ cs) = some_first c (eqb c b) (split b cs) (split-some b cs)
-
--- and its pieces put together are the text.
+-- A text has a piece, and its pieces put together are the text.
 joined-first : (b c : ℕ) (t : Bool) (ws : List (List ℕ)) → eqb c b ≡ t → 0 < length ws → joined b (cond t ([] ∷ ws) (onto c ws)) ≡ c ∷ joined b ws
 unfolding joined each_after
 joined-first b c t [] e h = absurd (omega arith)
@@ -96,4 +86,4 @@ joined-first b c false (w ∷ ws) e h = refl
 pub joined-split : (b : ℕ) (xs : List ℕ) → joined b (split b xs) ≡ xs
 unfolding split joined each_after
 joined-split b [] = refl
-joined-split b (c ∷ cs) = joined-first b c (eqb c b) (split b cs) refl (split-some b cs) ∙ ap (λ (r : List ℕ). c ∷ r) (joined-split b cs)
+joined-split b (c ∷ cs) = joined-first b c (eqb c b) (split b cs) refl (some-piece b cs (λ ws. 0 < length ws) (λ w ws. omega arith)) ∙ ap (λ (r : List ℕ). c ∷ r) (joined-split b cs)

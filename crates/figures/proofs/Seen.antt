@@ -1,14 +1,15 @@
 -- The flags of the places that were seen: they tell which places the entries so far have given.
 use Prim.Native.Nat.{ℕ, zero, suc, ◌+◌, ◌-◌, ◌≤◌, ◌<◌}
 use native.Mathlib.Decide.{ℕ_discrete}
+use native.Mathlib.Nat.{zero-add}
 use native.Mathlib.Numerals.{add-one}
 use native.Mathlib.Omega.{arith}
-use mathlib.Core.Bool.{Bool, true, false, ◌&&◌, ◌||◌, true≢false, and-false}
+use mathlib.Core.Bool.{Bool, true, false, ◌&&◌, ◌||◌, true≢false}
 use mathlib.Core.List.{List, [], ◌∷◌}
 use mathlib.Core.Path.{◌≡◌, refl, sym, ap, ap₂, ◌∙◌}
 use lib.ListN.{length, get_or, set, replicate, length-set, get_or-replicate}
 use lib.Seq.{get_or-set_same, get_or-set_other}
-use Rattle.numbers.proofs.Tests.{both}
+use Rattle.std.specs.List.{list_all, range_with_len}
 use Rattle.relations.specs.Sets.{MOST}
 use Rattle.figures.specs.Entries.{Entry, entry, is_at, given, all_counted}
 use Rattle.figures.specs.Inner.{flag, all_seen}
@@ -40,6 +41,18 @@ module _ (seen : List (List Bool)) (a b : ℕ) (h : a < length seen) where
       by : Dec (i ≡ a) → flag (marked seen a b) i j ≡ flag seen i j
       by (yes e) = rw (e, get_or-set_same seen a (set (get_or seen a []) b true) [] h) (get_or-set_other (get_or seen a []) b j true false (o e))
       by (no e) = rw (get_or-set_other seen a i (set (get_or seen a []) b true) [] e)
+
+swapped : (x y z : Bool) → (x && (y && z)) ≡ (y && (x && z))
+swapped true y z = refl
+swapped false true z = refl
+swapped false false z = refl
+
+-- A test of n numbers from a on, and one more.
+all_more : (p : ℕ → Bool) (a n : ℕ) → list_all p (range_with_len a (suc n)) ≡ (p (a + n) && list_all p (range_with_len a n))
+all_more p a zero = let e : a + 0 ≡ a = omega arith in rw e
+all_more p a (suc n) =
+    let e : a + 1 + n ≡ a + suc n = omega arith in
+    rw (all_more p (a + 1) n, e) (swapped (p a) (p (a + suc n)) (list_all p (range_with_len (a + 1) n)))
 
 -- ---- the places that were seen
 
@@ -97,22 +110,8 @@ module _ (seen : List (List Bool)) (es : List Entry) (s : Seen seen es) where
 
   -- The diagonal's flags tell whether all are counted.
   pub all-given : (n : ℕ) → n ≤ MOST → all_seen seen n ≡ all_counted n es
-  unfolding all_seen all_counted
+  unfolding all_counted
   all-given zero h = refl
-  all-given (suc n) h = let f = rw (add-one n) at (s.flags n n h h) in ap₂ ◌&&◌ f (all-given n (omega arith))
-
--- ---- the diagonal
-
--- One flag that is not set is enough.
-pub one_unseen : (seen : List (List Bool)) (n k : ℕ) → k < n → flag seen k k ≡ false → all_seen seen n ≡ false
-unfolding all_seen
-one_unseen seen zero k l h = absurd (omega arith)
-one_unseen seen (suc n) k l h = by (ℕ_discrete k n) (λ b. one_unseen seen n k b h)
-  where
-    by : Dec (k ≡ n) → (k < n → all_seen seen n ≡ false) → (flag seen n n && all_seen seen n) ≡ false
-    by (yes e) more = rw (← e, h)
-    by (no e) more = rw (more (omega arith)) (and-false (flag seen n n))
-
-pub more-all : (seen : List (List Bool)) (n : ℕ) → all_seen seen n ≡ true → flag seen n n ≡ true → all_seen seen (suc n) ≡ true
-unfolding all_seen
-more-all seen n h f = both (flag seen n n) (all_seen seen n) f h
+  all-given (suc n) h =
+      let f = rw (add-one n) at (s.flags n n h h) in
+      rw (zero-add n) at (all_more (λ k. flag seen k k) 0 n) ∙ ap₂ ◌&&◌ f (all-given n (omega arith))

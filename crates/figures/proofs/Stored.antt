@@ -5,13 +5,14 @@ use native.Mathlib.Nat.{mul-le-mul}
 use native.Mathlib.Numerals.{add-one}
 use native.Mathlib.Omega.{arith}
 use mathlib.Core.Bool.{Bool, true, false, cond}
-use mathlib.Core.List.{List, [], ◌∷◌}
+use mathlib.Core.List.{List, [], ◌∷◌, ◌++◌}
 use mathlib.Core.Logic.{◌≢◌}
 use mathlib.Core.Path.{◌≡◌, refl, sym, ◌∙◌}
 use lib.Dec.{ltb}
-use lib.ListN.{length, get_or, set, replicate, length-set}
+use lib.ListN.{length, get_or, set, drop, replicate, length-set, length-append, get_or-append, get_or-replicate}
 use lib.Seq.{get_or-set_same, get_or-set_other, ext_get_or}
 use borrow.Author.Tests.{eq-eqb, ne_eqb, lt-ltb, le-ltb}
+use Rattle.std.proofs.lemmas.List.{length-replicate, drop-replicate, get_or-append_right}
 use Rattle.numbers.proofs.Tests.{is_false}
 use Rattle.relations.specs.Pairs.{place}
 use Rattle.relations.specs.Sets.{MOST}
@@ -46,20 +47,19 @@ listed-set k p v f g l e o =
 abbrev one_below : ℕ → ℕ → ℕ
 one_below k p = cond (ltb p k) 1 0
 
-unfoldable pub ones : ℕ → List ℕ
-ones k = listed PAIRS (one_below k)
-
-pub ones_none : replicate PAIRS 0 ≡ ones 0
-unfolding ones listed
-ones_none = refl
-
-pub ones-more : (k : ℕ) → k < PAIRS → set (ones k) k 1 ≡ ones (suc k)
-unfolding ones
-ones-more k l = listed-set PAIRS k 1 (one_below k) (one_below (suc k)) l (rw (lt-ltb k (suc k) (omega arith))) (λ q n. by q n (dec_lt q k))
+filled : (k n : ℕ) → k ≤ n → replicate k 1 ++ drop k (replicate n 0) ≡ listed n (one_below k)
+filled k n l = rw (drop-replicate {X = ℕ} k n 0) (ext_get_or {A = ℕ} 0 (replicate k 1 ++ replicate (n - k) 0) (listed n (one_below k)) long (λ p b. at p (omega (arith, b, long, listed-length n (one_below k))) (dec_lt p k)))
   where
-    by : (q : ℕ) → q ≢ k → Dec (q < k) → one_below (suc k) q ≡ one_below k q
-    by q n (yes b) = rw (lt-ltb q k b, lt-ltb q (suc k) (omega arith))
-    by q n (no b) = rw (le-ltb q k (omega arith), le-ltb q (suc k) (omega arith))
+    long : length {A = ℕ} (replicate k 1 ++ replicate (n - k) 0) ≡ length (listed n (one_below k))
+    long = omega (arith, length-append {A = ℕ} (replicate k 1) (replicate (n - k) 0), length-replicate {A = ℕ} k 1, length-replicate {A = ℕ} (n - k) 0, listed-length n (one_below k))
+
+    at : (p : ℕ) → p < n → Dec (p < k) → get_or (replicate k 1 ++ replicate (n - k) 0) p 0 ≡ get_or (listed n (one_below k)) p 0
+    at p b (yes h) =
+        get_or-append {A = ℕ} (replicate k 1) (replicate (n - k) 0) 0 p (omega (arith, length-replicate {A = ℕ} k 1))
+        ∙ get_or-replicate {A = ℕ} k p 1 0 h ∙ sym (listed_at n (one_below k) p b ∙ rw (lt-ltb p k h))
+    at p b (no h) =
+        get_or-append_right {X = ℕ} (replicate k 1) (replicate (n - k) 0) k p 0 (length-replicate {A = ℕ} k 1) (omega arith)
+        ∙ get_or-replicate {A = ℕ} (n - k) (p - k) 0 0 (omega arith) ∙ sym (listed_at n (one_below k) p b ∙ rw (le-ltb p k (omega arith)))
 
 -- So many pairs are there of n relations,
 pub pairs_of : (n : ℕ) → place 1 (n + 1) ≡ n * (n - 1) / 2
@@ -73,9 +73,10 @@ pairs-most n l =
     omega arith
 
 -- These are the figures of n relations before any entry.
-pub none-stored : (n : ℕ) → record { n = n; counts = replicate MOST 0; divisors = ones (n * (n - 1) / 2) } ≡ figures_of n []
-unfolding figures_of ones count_at divisor_at value_of listed
-none-stored n = λ i. record { n = n; counts = listed MOST (λ p. none (ltb p n) i); divisors = ones (n * (n - 1) / 2) }
+pub none-stored : (n : ℕ) → n ≤ MOST
+    → record { n = n; counts = replicate MOST 0; divisors = replicate (n * (n - 1) / 2) 1 ++ drop (n * (n - 1) / 2) (replicate PAIRS 0) } ≡ figures_of n []
+unfolding figures_of count_at divisor_at value_of listed
+none-stored n l = λ i. record { n = n; counts = listed MOST (λ p. none (ltb p n) i); divisors = filled (n * (n - 1) / 2) PAIRS (pairs-most n l) i }
   where
     none : (b : Bool) → 0 ≡ cond {A = ℕ} b 0 0
     none true = refl

@@ -5,16 +5,15 @@ use mathlib.Core.Bool.{Bool, true, false, not, true≢false}
 use mathlib.Core.List.{List, [], ◌∷◌}
 use mathlib.Core.Path.{◌≡◌, refl, sym, ap, ◌∙◌}
 use lib.ListN.{length, replicate, drop, length-drop, drop_of_length-le}
+use Rattle.std.specs.Prelude.{Ok, Err}
 use Rattle.numbers.proofs.Tests.{is_false}
 use Rattle.relations.specs.Sets.{MOST}
 use Rattle.figures.specs.Lines.{FEED, split}
 use Rattle.figures.specs.Entries.{Entry, entry, in_triangle, zero_divisor, given, all_counted, figures_of}
-use Rattle.figures.specs.Judge.{Result, number_of, accepted, refused, faulty, is_end, entry_lines}
-use Rattle.figures.specs.Inner.{lines_at, told, Going, Reads, with_entry, flag, all_seen}
+use Rattle.figures.specs.Judge.{Result, result_of, accepted, refused, faulty, is_end, entry_lines}
+use Rattle.figures.specs.Inner.{lines_at, LineRead, told, Going, Reads, with_entry, flag, all_seen}
 use Rattle.figures.specs.declared.Figures.{Figures}
-use Rattle.figures.specs.declared.Refusal.{Refusal}
-use Rattle.figures.specs.declared.lines.Line.{Line}
-use Rattle.figures.specs.declared.lines.Line.TheVariants as line
+use Rattle.figures.specs.declared.Fault.{Fault}
 use Rattle.figures.proofs.Collected.{triangle}
 use Rattle.figures.proofs.Pieces.{joined, each_after, joined-split}
 use Rattle.figures.proofs.Seen.{Seen, marked, none_seen, seen_given, more_seen, all-given}
@@ -51,17 +50,17 @@ on_entry n m es at i j v next rest =
     faulty 13 at (given i j es) (faulty 3 at (zero_divisor (entry i j v)) (entry_lines n m (entry i j v ∷ es) next rest))
 
 module _ {text : List ℕ} {n m : ℕ} {seen : List (List Bool)} {figures : Figures} {at : ℕ} {w : Result}
-    (h : Kept text n (suc m) seen figures at w) (x : Line) (reads : Reads text at x (within n at)) where
+    (h : Kept text n (suc m) seen figures at w) (x : LineRead) (reads : Reads text at x (within n at)) where
   judged-line : told x (λ i j v next. on_entry n m h.es at i j v next (lines_at text next)) ≡ w
   unfolding entry_lines
   judged-line = reads (on_entry n m h.es at) ∙ h.same
 
   -- A line that is refused is the answer.
-  pub line_refused : {why : Refusal} {start : ℕ} → x ≡ line.Refused why start → refused (number_of why) start ≡ w
+  pub line_refused : {fault : Fault} → x ≡ Err fault → result_of (Err fault) ≡ w
   line_refused e = rw e at judged-line
 
   -- An entry, of which the place is in the triangle.
-  module _ {i j v next : ℕ} (e : x ≡ line.Numbers i j v next) (t : in_triangle n i j ≡ true) where
+  module _ {i j v next : ℕ} (e : x ≡ Ok (i, j, v, next)) (t : in_triangle n i j ≡ true) where
     named : (1 ≤ j) × (j ≤ i) × (i ≤ MOST)
     named = let b = triangle n i j t in (b.0, b.1, omega (arith, h.few))
 

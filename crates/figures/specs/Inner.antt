@@ -1,40 +1,31 @@
 -- What only the contracts of the inner functions cite. No promise to a caller rests on it.
-use Rattle.std.specs.Prelude.{ℕ, zero, suc, ◌-◌, ◌≤◌, ◌<◌, min, Bool, true, false, cond, ◌&&◌, List, [], ◌∷◌, ◌≡◌, eqb, drop, get_or, set}
+use Rattle.std.specs.Prelude.{ℕ, suc, ◌-◌, ◌≤◌, ◌<◌, min, Bool, true, false, cond, List, [], ◌≡◌, eqb, drop, get_or, set, Option, Some, None, IfOk, Result as Outcome, Ok, Err}
+use Rattle.std.specs.List.{position_from, list_all, range_with_len}
 use Rattle.numbers.specs.Texts.{value}
 use Rattle.relations.specs.Pairs.{place}
 use Rattle.relations.specs.Sets.{MOST, is_relation}
 use Rattle.figures.specs.Lines.{FEED, split, is_number, Numbers, three, none, numbers_of}
 use Rattle.figures.specs.Entries.{Entry, in_triangle}
 use Rattle.figures.specs.Judge.{Result, number_of, refused, on_line, LARGEST, with_numbers}
-use Rattle.figures.specs.declared.Answer.{Answer}
-use Rattle.figures.specs.declared.Answer.TheVariants.{Accepted, Refused}
+use Rattle.figures.specs.declared.Fault.{Fault}
 use Rattle.figures.specs.declared.Figures.{Figures}
-use Rattle.figures.specs.declared.lines.Line.{Line}
-use Rattle.figures.specs.declared.lines.Line.TheVariants as line
-use Rattle.figures.specs.declared.lines.Heading.{Heading}
-use Rattle.figures.specs.declared.lines.Heading.TheVariants as heading
-use Rattle.figures.specs.declared.words.Word.{Word}
-use Rattle.figures.specs.declared.words.Word.TheVariants as word
-use Rattle.figures.specs.declared.words.Words.{Words}
-use Rattle.figures.specs.declared.words.Words.TheVariants as words
 
 -- ---- words
 
--- How many bytes stand before the first b, or in all where there is none.
-unfoldable pub up_to : ℕ → List ℕ → ℕ
-up_to b [] = 0
-up_to b (c ∷ cs) = cond (eqb c b) 0 (suc (up_to b cs))
+-- How many bytes stand before the first b, where there is one.
+abbrev pub first_of : ℕ → List ℕ → Option ℕ
+first_of b = position_from (λ c. eqb c b) 0
 
 -- A number held one above the largest, where it stands for every number that is too large.
 abbrev pub held : ℕ → ℕ
 held k = min k (suc LARGEST)
 
-unfoldable pub word_of : List ℕ → Word
-word_of w = cond (is_number w) (word.Number (held (value 0 w))) word.Refused
+unfoldable pub word_of : List ℕ → Option ℕ
+word_of w = cond (is_number w) (Some (held (value 0 w))) None
 
-abbrev pub words_of : Numbers → Words
-words_of (three a b c) = words.Three (held a) (held b) (held c)
-words_of none = words.Refused
+abbrev pub words_of : Numbers → Option (ℕ × ℕ × ℕ)
+words_of (three a b c) = Some (held a, held b, held c)
+words_of none = None
 
 -- ---- lines
 
@@ -42,49 +33,41 @@ words_of none = words.Refused
 abbrev pub lines_at : List ℕ → ℕ → List (List ℕ)
 lines_at text at = split FEED (drop at text)
 
+-- A line of numbers, as its reader answers it: the numbers, and the place after it.
+abbrev pub LineRead : Type 0
+LineRead = Outcome (ℕ × ℕ × ℕ × ℕ) Fault
+
 -- What a reader of lines answers, as the judge has it: it goes on, or the line is refused.
-abbrev pub passed : Heading → (ℕ → Result) → Result
-passed (heading.Passed next) go = go next
-passed (heading.Refused why at) go = refused (number_of why) at
+abbrev pub passed : Outcome ℕ Fault → (ℕ → Result) → Result
+passed (Ok next) go = go next
+passed (Err fault) go = refused (number_of fault.why) fault.at
 
-abbrev pub told : Line → (ℕ → ℕ → ℕ → ℕ → Result) → Result
-told (line.Numbers a b c next) go = go a b c next
-told (line.Refused why at) go = refused (number_of why) at
-
--- The file's answer as far as the lines go that a reader took: accepted, or their refusal.
-abbrev pub heading_answer : Heading → Answer
-heading_answer (heading.Passed next) = Accepted
-heading_answer (heading.Refused why at) = Refused why at
-
-abbrev pub line_answer : Line → Answer
-line_answer (line.Numbers a b c next) = Accepted
-line_answer (line.Refused why at) = Refused why at
+abbrev pub told : LineRead → (ℕ → ℕ → ℕ → ℕ → Result) → Result
+told (Ok x) go = go x.0 x.1 x.2 x.3
+told (Err fault) go = refused (number_of fault.why) fault.at
 
 -- How the judge goes on after a line of numbers: with the numbers, the place after the line and the lines from there on.
 abbrev pub Going : Type 0
 Going = ℕ → ℕ → ℕ → ℕ → List (List ℕ) → Result
 
 -- The answer of a reader of the line at `at`, which also judges what `judge` puts before the rest.
-abbrev pub Reads : List ℕ → ℕ → Line → (Going → Going) → Type 0
+abbrev pub Reads : List ℕ → ℕ → LineRead → (Going → Going) → Type 0
 Reads text at x judge =
     (go : Going)
     → told x (λ a b c next. go a b c next (lines_at text next))
     ≡ on_line at (lines_at text at) (λ l next rest. with_numbers at (numbers_of l) (λ a b c. judge go a b c next rest))
 
 -- The next line starts after this one, within the text.
-abbrev pub Onward : ℕ → ℕ → Line → Type 0
-Onward at end (line.Numbers a b c next) = (at < next) × (next ≤ end)
-Onward at end (line.Refused why start) = Unit {0}
+abbrev pub Onward : ℕ → ℕ → LineRead → Type 0
+Onward at end x = IfOk x (λ l. (at < l.3) × (l.3 ≤ end))
 
 -- A size line that was not refused.
-abbrev pub Sized : Line → Type 0
-Sized (line.Numbers n b m next) = is_relation MOST n ≡ true
-Sized (line.Refused why start) = Unit {0}
+abbrev pub Sized : LineRead → Type 0
+Sized x = IfOk x (λ l. is_relation MOST l.0 ≡ true)
 
 -- An entry that was not refused.
-abbrev pub Inside : ℕ → Line → Type 0
-Inside n (line.Numbers i j v next) = in_triangle n i j ≡ true
-Inside n (line.Refused why start) = Unit {0}
+abbrev pub Inside : ℕ → LineRead → Type 0
+Inside n x = IfOk x (λ l. in_triangle n l.0 l.1 ≡ true)
 
 -- ---- entries
 
@@ -99,6 +82,5 @@ with_entry f e =
 abbrev pub flag : List (List Bool) → ℕ → ℕ → Bool
 flag seen i j = get_or (get_or seen i []) j false
 
-unfoldable pub all_seen : List (List Bool) → ℕ → Bool
-all_seen seen zero = true
-all_seen seen (suc n) = flag seen n n && all_seen seen n
+abbrev pub all_seen : List (List Bool) → ℕ → Bool
+all_seen seen n = list_all (λ k. flag seen k k) (range_with_len 0 n)

@@ -1,5 +1,5 @@
 -- The judge of lines: what `read` answers for any text (document 01, "Figures file").
-use Rattle.std.specs.Prelude.{ℕ, zero, suc, ◌+◌, Bool, true, false, cond, not, ◌||◌, List, [], ◌∷◌, ◌++◌, ◌≡◌, refl, eqb, ltb, length}
+use Rattle.std.specs.Prelude.{ℕ, zero, suc, ◌+◌, Bool, true, false, cond, not, ◌||◌, List, [], ◌∷◌, ◌++◌, ◌≡◌, refl, eqb, ltb, length, replicate, Result as Outcome, Ok, Err}
 use Prim.Native.String.{String}
 use Rattle.numbers.specs.Texts.{bytes, same_list, is_digit, value}
 use Rattle.relations.specs.Pairs.{place, before}
@@ -9,9 +9,7 @@ use Rattle.figures.specs.Entries.{Entry, entry, in_triangle, zero_divisor, is_at
 use Rattle.figures.specs.declared.Figures.{Figures}
 use Rattle.figures.specs.declared.Refusal.{Refusal}
 use Rattle.figures.specs.declared.Refusal.TheVariants.{Relations, Unequal, ZeroDivisor, Shape, NoCount, Twice, Outside, TooLarge}
-use Rattle.figures.specs.declared.Answer.{Answer}
-use Rattle.figures.specs.declared.Answer.TheVariants.{Accepted, Refused}
-use Rattle.figures.specs.declared.Reading.{Reading}
+use Rattle.figures.specs.declared.Fault.{Fault}
 
 -- ---- answers
 
@@ -32,22 +30,16 @@ number_of Twice = 13
 number_of Outside = 14
 number_of TooLarge = 15
 
-abbrev pub number_given : Answer → ℕ
-number_given Accepted = 0
-number_given (Refused why at) = number_of why
-
-abbrev pub place_given : Answer → ℕ
-place_given Accepted = 0
-place_given (Refused why at) = at
-
-abbrev pub result_of : Reading → Result
-result_of r = record { number = number_given r.answer; place = place_given r.answer; figures = r.figures }
-
 abbrev pub accepted : ℕ → List Entry → Result
 accepted n es = record { number = 0; place = 0; figures = figures_of n es }
 
 abbrev pub refused : ℕ → ℕ → Result
 refused k at = record { number = k; place = at; figures = no_figures }
+
+-- What `read` answers, as document 01's table ("Numbers answered") has it.
+abbrev pub result_of : Outcome Figures Fault → Result
+result_of (Ok f) = record { number = 0; place = 0; figures = f }
+result_of (Err fault) = refused (number_of fault.why) fault.at
 
 -- A fault of the line at `at`, if it is one, is answered; if not, the judge goes on.
 abbrev pub faulty : ℕ → ℕ → Bool → Result → Result
@@ -126,6 +118,11 @@ unfoldable pub judged : List ℕ → Result
 judged text = first_line (split FEED text)
 
 -- ---- computed: the number and the place that are answered; where a text follows line 1, that has 51 bytes with its feed
+
+-- No figure is left where a text is refused.
+none_left : (judged []).figures ≡ record { n = 0; counts = replicate 15 0; divisors = replicate 105 0 }
+unfolding split no_figures on_line first_line judged
+none_left = refl
 
 answer : List ℕ → List ℕ
 answer text = (judged text).number ∷ (judged text).place ∷ []

@@ -1,73 +1,65 @@
 // The entry lines, and the figures that they say (document 01, "Figures file").
-ghost use Rattle.std.specs.Prelude.{true, false, ◌≡◌, [], ◌≤◌};
+ghost use Rattle.std.specs.Prelude.{true, ◌≡◌, [], ◌≤◌};
 ghost use Rattle.relations.specs.Sets.{MOST, is_relation};
-ghost use Rattle.figures.specs.Entries.{entry, in_triangle, zero_divisor, figures_of, no_figures};
+ghost use Rattle.figures.specs.Entries.{entry, in_triangle, zero_divisor, figures_of};
 ghost use Rattle.figures.specs.Judge.{result_of, entry_lines};
 ghost use Rattle.figures.specs.Inner.{lines_at, with_entry, all_seen};
 
-use crate::lines::Line;
-use crate::{Answer, Figures, Reading, Refusal, lines};
+use crate::{Fault, Figures, Refusal, lines};
 
-// m entry lines from `start` on, and the end of the text. However many the size line claims, each turn takes bytes of the text, by which
-// the loop is shown to end; and since no place is taken twice, the 121st line is refused at the latest.
+// m entry lines from `start` on, and the end of the text. However many the size line claims, each turn takes bytes of the text, so that
+// there are no more turns than bytes; and since no place is taken twice, the 121st line is refused at the latest.
 #[tactic(auto, using(crate::proofs::Collected::triangle))]
-pub fn read_entries(text: &[u8], start: usize, n: u32, m: u32) -> Reading
+pub fn read_entries(text: &[u8], start: usize, n: u32, m: u32) -> Result<Figures, Fault>
     requires { is_relation MOST n ≡ true }
     ensures { result_of result ≡ entry_lines n m [] start (lines_at text.now start) }
 {
     let mut seen = [[false; 15]; 15];
     let mut figures = no_entries(n);
     let mut at = start;
-    let mut k: u32 = 0;
-    while k < m {
+    for _ in 0..m {
+        // Let else, as in `read`.
         let line = lines::entry_line(text, at, n);
-        let Line::Numbers(i, j, v, next) = line else {
-            return without_figures(line.answer());
+        let Ok((i, j, v, next)) = line else {
+            return Err(line.unwrap_err());
         };
         let row = (i - 1) as usize;
         let column = (j - 1) as usize;
         let twice = seen[row][column];
         let no_divisor = is_zero_divisor(i, j, v);
         if twice {
-            return without_figures(Answer::Refused(Refusal::Twice, at));
+            return Err(Refusal::Twice.at(at));
         }
         if no_divisor {
-            return without_figures(Answer::Refused(Refusal::ZeroDivisor, at));
+            return Err(Refusal::ZeroDivisor.at(at));
         }
         seen[row][column] = true;
         figures = with_entry(figures, i, j, v);
         at = next;
-        k += 1;
     }
     let bytes_follow = at < text.len();
     if bytes_follow {
-        return without_figures(Answer::Refused(Refusal::Shape, at));
+        return Err(Refusal::Shape.at(at));
     }
     if !all_seen(seen, n) {
-        return without_figures(Answer::Refused(Refusal::NoCount, at));
+        return Err(Refusal::NoCount.at(at));
     }
-    Reading {
-        answer: Answer::Accepted,
-        figures: figures,
-    }
+    Ok(figures)
 }
 
-// The figures of n relations before any entry is read: no rows, and no predicate, which is divisor 1.
+// The figures of n relations before any entry is read: no rows, and no predicate, which is divisor 1. That n is at most 15 is asked for
+// here and by others one by one: each has a number of its own, and a type for it would be taken apart at once.
 fn no_entries(n: u32) -> Figures
     requires { n ≤ MOST }
     ensures { result ≡ figures_of n [] }
 {
     let mut divisors = [0u32; 105];
     let pairs = relations::pairs::place(1, n + 1);
-    let mut p = 0;
-    while p < pairs {
-        divisors[p] = 1;
-        p += 1;
-    }
+    divisors[..pairs].fill(1);
     Figures {
-        n: n,
+        n,
         counts: [0; 15],
-        divisors: divisors,
+        divisors,
     }
 }
 
@@ -100,27 +92,5 @@ fn all_seen(seen: [[bool; 15]; 15], n: u32) -> bool
     requires { n ≤ MOST }
     ensures { result ≡ all_seen seen n }
 {
-    let end = n as usize;
-    let mut k = 0;
-    while k < end {
-        if !seen[k][k] {
-            return false;
-        }
-        k += 1;
-    }
-    true
-}
-
-// The answer with no figures: every figure and n are 0.
-pub fn without_figures(answer: Answer) -> Reading
-    ensures { result ≡ record { answer = answer; figures = no_figures } }
-{
-    Reading {
-        answer: answer,
-        figures: Figures {
-            n: 0,
-            counts: [0; 15],
-            divisors: [0; 105],
-        },
-    }
+    (0..n as usize).all(|k| seen[k][k])
 }

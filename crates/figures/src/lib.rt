@@ -4,8 +4,6 @@
 ghost use Rattle.std.specs.Prelude.{◌≡◌};
 ghost use Rattle.figures.specs.Judge.{number_of, result_of, judged};
 
-use crate::lines::{Heading, Line};
-
 // The entry lines, and the figures that they say.
 mod entries;
 // The readers of lines.
@@ -13,80 +11,76 @@ mod lines;
 // Words, and the numbers that they are.
 mod words;
 
-// Why a text is refused (document 01, "Figures file").
-#[derive(Clone, Copy)]
+// Why a text is refused: the numbers are document 01's ("Figures file").
+#[derive(Clone, Copy, Debug, PartialEq, Eq)]
 pub enum Refusal {
-    // 1: n is not 1 to 15.
-    Relations,
-    // 2: the first two numbers of the size line are unequal.
-    Unequal,
-    // 3: a divisor is 0.
-    ZeroDivisor,
-    // 11: a line has not its shape or is missing, or bytes follow the last.
-    Shape,
-    // 12: a relation has no row count.
-    NoCount,
-    // 13: a place is given twice.
-    Twice,
-    // 14: a place is not in the lower triangle of n by n.
-    Outside,
-    // 15: a number is above 4,294,967,295.
-    TooLarge,
+    // n is not 1 to 15.
+    Relations = 1,
+    // The first two numbers of the size line are unequal.
+    Unequal = 2,
+    // A divisor is 0.
+    ZeroDivisor = 3,
+    // A line has not its shape or is missing, or bytes follow the last.
+    Shape = 11,
+    // A relation has no row count.
+    NoCount = 12,
+    // A place is given twice.
+    Twice = 13,
+    // A place is not in the lower triangle of n by n.
+    Outside = 14,
+    // A number is above 4,294,967,295.
+    TooLarge = 15,
 }
 
-// Whether the figures were read; or why not, with the start of the line at fault.
-#[derive(Clone, Copy)]
-pub enum Answer {
-    Accepted,
-    Refused(Refusal, usize),
+impl From<Refusal> for u32 {
+    ghost from_gives = { λ why n. n ≡ number_of why };
+
+    fn from(why: Refusal) -> u32 {
+        why as u32
+    }
 }
 
-// The figures of n relations: relation k's row count at place k - 1, and the divisors at their pairs' places. What is past those of n is 0.
-#[derive(Clone, Copy)]
+impl Refusal {
+    // The refusal of the line that starts at `at`.
+    fn at(self, at: usize) -> Fault
+        ensures { result ≡ record { why = self; at = at } }
+    {
+        Fault { why: self, at }
+    }
+}
+
+// Why a text is refused, and the start of the line at fault.
+#[derive(Clone, Copy, Debug, PartialEq, Eq)]
+pub struct Fault {
+    pub why: Refusal,
+    pub at: usize,
+}
+
+// The figures of n relations: relation k's row count at place k - 1, and the divisors at their pairs' places. What is past those of n is 0:
+// there is no heap, so the arrays are as long as for the most relations.
+#[derive(Clone, Copy, Debug, PartialEq, Eq)]
 pub struct Figures {
     pub n: u32,
     pub counts: [u32; 15],
     pub divisors: [u32; 105],
 }
 
-// What `read` answers. Where the text is refused every figure and n are 0.
-#[derive(Clone, Copy)]
-pub struct Reading {
-    pub answer: Answer,
-    pub figures: Figures,
-}
-
-// A refusal's number in document 01.
-pub fn number_of(why: Refusal) -> u32
-    ensures { result ≡ number_of why }
-{
-    match why {
-        Refusal::Relations => 1,
-        Refusal::Unequal => 2,
-        Refusal::ZeroDivisor => 3,
-        Refusal::Shape => 11,
-        Refusal::NoCount => 12,
-        Refusal::Twice => 13,
-        Refusal::Outside => 14,
-        Refusal::TooLarge => 15,
-    }
-}
-
 // The figures that a text says. No text is too long or too damaged: it is judged from the top, line by line, up to the first fault.
-pub fn read(text: &[u8]) -> Reading
+pub fn read(text: &[u8]) -> Result<Figures, Fault>
     ensures result { result_of result ≡ judged text.now }
 {
+    // Let else, and not `?`: document 01 names the form ("Which places take which form").
     let first = lines::first_line(text);
-    let Heading::Passed(second) = first else {
-        return entries::without_figures(first.answer());
+    let Ok(second) = first else {
+        return Err(first.unwrap_err());
     };
     let comments = lines::past_comments(text, second);
-    let Heading::Passed(at) = comments else {
-        return entries::without_figures(comments.answer());
+    let Ok(at) = comments else {
+        return Err(comments.unwrap_err());
     };
     let size = lines::size_line(text, at);
-    let Line::Numbers(n, _, m, start) = size else {
-        return entries::without_figures(size.answer());
+    let Ok((n, _, m, start)) = size else {
+        return Err(size.unwrap_err());
     };
     entries::read_entries(text, start, n, m)
 }

@@ -4,15 +4,15 @@ use native.Mathlib.Omega.{arith}
 use mathlib.Core.List.{[], ◌∷◌}
 use mathlib.Core.Path.{◌≡◌, refl, sym, ap, ◌∙◌}
 use lib.ListN.{get_or}
+use Rattle.std.specs.Prelude.{Ok, Err}
+use Rattle.std.specs.Prelude.{Result as Outcome}
 use Rattle.numbers.specs.Determined.{Determined, DeterminedWith}
 use Rattle.newick.specs.Results.{Answer, number_of, answer, Result}
-use Rattle.newick.specs.declared.Printed.{Printed}
-use Rattle.newick.specs.declared.Printed.TheVariants.{Text, Refused}
 use Rattle.newick.specs.declared.Refusal.{Refusal}
 use Rattle.newick.specs.declared.Refusal.TheVariants.{Relations, ShortColumn, NoPlan, ShortText, NoTree}
 use Rattle.newick.proofs.Refusals.{number_pos}
 use Rattle.newick.proofs.print.Reads as Print
-use Rattle.newick.proofs.number_of.Reads as NumberOf
+use Rattle.newick.proofs.U32FromRefusal.from.Reads as NumberOf
 
 -- A refusal is known by its number.
 refusal_of : ℕ → Refusal
@@ -28,12 +28,12 @@ refusal_of_lem NoPlan = refl
 refusal_of_lem ShortText = refl
 refusal_of_lem NoTree = refl
 
--- Number and length tell the answers of the enum apart.
-answer_tells : (r q : Printed) → answer r ≡ answer q → r ≡ q
-answer_tells (Text l) (Text m) e = ap (λ (x : Answer). Text x.length) e
-answer_tells (Text l) (Refused w) e = absurd (omega (arith, ap (λ (x : Answer). x.number) e, number_pos w))
-answer_tells (Refused w) (Text l) e = absurd (omega (arith, ap (λ (x : Answer). x.number) e, number_pos w))
-answer_tells (Refused w) (Refused v) e = ap Refused (sym (refusal_of_lem w) ∙ ap (λ (x : Answer). refusal_of x.number) e ∙ refusal_of_lem v)
+-- Number and length tell the answers apart.
+answer_tells : (r q : Outcome ℕ Refusal) → answer r ≡ answer q → r ≡ q
+answer_tells (Ok l) (Ok m) e = ap (λ (x : Answer). Ok x.length) e
+answer_tells (Ok l) (Err w) e = absurd (omega (arith, ap (λ (x : Answer). x.number) e, number_pos w))
+answer_tells (Err w) (Ok l) e = absurd (omega (arith, ap (λ (x : Answer). x.number) e, number_pos w))
+answer_tells (Err w) (Err v) e = ap Err (sym (refusal_of_lem w) ∙ ap (λ (x : Answer). refusal_of x.number) e ∙ refusal_of_lem v)
 
 print_determined : DeterminedWith Print.Post (λ x. x.1.1.1.0.now)
 print_determined k a x y r q p s =

@@ -3,5 +3,6 @@ pub mod WalkLaws
 pub mod TextLaws
 pub mod Writing
 pub mod Refusals
+pub mod Printing
 pub mod Shown
 mod Determined

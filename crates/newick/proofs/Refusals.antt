@@ -1,17 +1,19 @@
 -- What the checks find: where none refuses, the columns hold a plan and the room is long enough.
-use Prim.Native.Nat.{ℕ, zero, suc, ◌^◌, ◌≤◌, ◌<◌}
+use Prim.Native.Nat.{ℕ, zero, suc, ◌+◌, ◌-◌, ◌^◌, ◌≤◌, ◌<◌}
 use native.Mathlib.Decide.{dec_le}
 use native.Mathlib.Omega.{arith}
-use mathlib.Core.Bool.{true, false, cond}
-use mathlib.Core.List.{List}
+use mathlib.Core.Bool.{Bool, ◌||◌, true, false, cond}
+use mathlib.Core.List.{List, [], ◌∷◌}
 use mathlib.Core.Logic.{◌≢◌}
-use mathlib.Core.Path.{◌≡◌, subst}
-use lib.Dec.{ltb}
+use mathlib.Core.Path.{◌≡◌, refl, sym, subst, ◌∙◌}
+use lib.Dec.{eqb, leb, ltb}
 use lib.ListN.{length, get_or}
-use borrow.Author.Tests.{eqb-false, eq-eqb, ne_eqb, ltb-false}
+use lib.Pow.{pow_pos}
+use Rattle.std.proofs.lemmas.Bool.Decides.{nat_tests}
+use borrow.Author.Tests.{eqb-true, eqb-false, eq-eqb, ne_eqb, ltb-false}
 use Rattle.numbers.proofs.Tests.{neither, is_false}
 use Rattle.relations.specs.Sets.{MOST, all_of, first, is_relation}
-use Rattle.relations.proofs.Named.{all_is, all_none, all-some, is_relation_lem}
+use Rattle.relations.proofs.Named.{all_is, all_none, all-some, is_relation_lem, relation_is}
 use Rattle.table.specs.Results.{in_order}
 use Rattle.table.specs.Rule.{NONE}
 use Rattle.table.specs.Trees.{Over, plan_of}
@@ -41,6 +43,47 @@ some-allowed (suc n) h = (omega arith, by (dec_le (suc n) MOST))
     by : Dec (suc n ≤ MOST) → suc n ≤ MOST
     by (yes l) = l
     by (no l) = absurd (h (all_none (suc n) (omega arith)))
+
+-- A column that ends at the full set, the last of 2^n, or before.
+edge : (n x full : ℕ) → full ≡ 2 ^ n - 1 → leb x full ≡ ltb x (2 ^ n)
+edge n x full e = let whole : full + 1 ≡ 2 ^ n = omega (arith, pow_pos n) in grind (arith, nat_tests)
+
+-- ---- the tests in turn; `full` is the full set's number
+
+-- What the first test leaves: n is 1 to 15.
+pub full_bounds : (n full : ℕ) → full ≡ all_of n → full ≢ 0 → (1 ≤ n) × (n ≤ MOST)
+full_bounds n full is some = some-allowed n (λ e. some (is ∙ e))
+
+-- The first refusal that is due is found, and else the next is looked for.
+next : (s r c m : Bool) → in_order (cond s 6 0 ∷ cond r 9 0 ∷ cond c 7 0 ∷ cond m 10 0 ∷ []) ≡ cond s 6 (cond r 9 (cond c 7 (cond m 10 0)))
+unfolding in_order first
+next true r c m = refl
+next false true c m = refl
+next false false true m = refl
+next false false false true = refl
+next false false false false = refl
+
+-- What the tests find in turn, of a set of all n, full, and columns that end at it or go on past it.
+abbrev pub tests : ℕ → ℕ → List ℕ → List ℕ → ℕ → ℕ
+tests n full costs lefts room =
+    cond (eqb full 0) 1
+    (cond (leb (length costs) full || leb (length lefts) full) 6
+    (cond (ltb room (needed n)) 9 (cond (eqb (get_or costs full 0) NONE) 7 (cond (meets_fault lefts full) 10 0))))
+
+-- It is what "print: 1, 6, 9, then 7, then 10" asks for.
+in_turn : (n full : ℕ) (costs lefts : List ℕ) (room : ℕ) → full ≡ all_of n → unprinted n costs lefts room ≡ tests n full costs lefts room
+unfolding unprinted short_column in_order first
+in_turn n full costs lefts room is =
+    by_test (eqb full 0) (λ e. rw (e, none_allowed n (sym is ∙ eqb-true full 0 e)))
+    (λ e.
+    let b = full_bounds n full is (eqb-false full 0 e) in
+    let last : full ≡ 2 ^ n - 1 = is ∙ all_is n b.1 in
+    rw (e, relation_is MOST n b.0 b.1, ← edge n (length costs) full last, ← edge n (length lefts) full last, ← is)
+    (next (leb (length costs) full || leb (length lefts) full) (ltb room (needed n)) (eqb (get_or costs full 0) NONE) (meets_fault lefts full)))
+
+pub found_in_turn : (n full : ℕ) (costs lefts : List ℕ) (room k : ℕ) → full ≡ all_of n → k ≡ tests n full costs lefts room
+    → k ≡ unprinted n costs lefts room
+found_in_turn n full costs lefts room k is e = e ∙ sym (in_turn n full costs lefts room is)
 
 -- ---- columns that hold a plan
 

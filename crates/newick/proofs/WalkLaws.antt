@@ -41,6 +41,9 @@ no_fault L S e =
     let other : L ≢ S = eqb-false L S b.1 in
     record { some = omega arith; less = omega (arith, part-le L S part); part = part }
 
+pub right_lower : (L S R : ℕ) → R ≡ without S L → false ≡ faulty L S → R < S
+right_lower L S R r e = let i = no_fault L S (sym e) in omega (arith, r, without-part S L i.part, i.some, i.less)
+
 faultless : (L S : ℕ) → IsLeft L S → faulty L S ≡ false
 unfolding faulty
 faultless L S h = rw (ne_eqb L 0 (omega (arith, h.some)), ne_eqb L S (omega (arith, h.less)), part-inside L S h.part)
@@ -103,6 +106,14 @@ module _ (lefts : List ℕ) where
   pub walk_more : (S L : ℕ) → larger S ≡ true → L ≡ get_or lefts S 0
       → meets_fault lefts S ≡ (faulty L S || meets_fault lefts L || meets_fault lefts (S - L))
   walk_more S L m e = walk_step S ∙ rw (m, ← e)
+
+  -- The same with the right part R as it is worked out, which is what is left where S has no fault.
+  module _ (S L R : ℕ) (m : true ≡ larger S) (l : L ≡ get_or lefts S 0) (r : R ≡ without S L) where
+    pub walk_parts : (b : Bool) → b ≡ (faulty L S || meets_fault lefts L || meets_fault lefts R) → b ≡ meets_fault lefts S
+    walk_parts b e =
+        e
+        ∙ parts_same L S _ _ _ _ (λ i. (refl, ap (meets_fault lefts) (r ∙ without-part S L i.part)))
+        ∙ sym (walk_more S L (sym m) l)
 
   -- ---- the tree
 

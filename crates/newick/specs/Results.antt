@@ -1,5 +1,5 @@
 -- What print answers and leaves behind, for accepted and refused calls alike (document 01, "Printing the tree", "Numbers answered").
-use Rattle.std.specs.Prelude.{ℕ, ◌^◌, Bool, ◌||◌, cond, List, [], ◌∷◌, ◌++◌, ◌≡◌, refl, eqb, ltb, length, get_or, drop, replicate}
+use Rattle.std.specs.Prelude.{ℕ, ◌^◌, Bool, ◌||◌, cond, List, [], ◌∷◌, ◌++◌, ◌≡◌, refl, eqb, ltb, length, get_or, drop, replicate, Result as Outcome, Ok, Err}
 use Rattle.numbers.specs.Texts.{bytes, digits, decimal}
 use Rattle.relations.specs.Sets.{MOST, weight, mem, those, without, inside, all_of, first, lowest_to, lowest, rest, larger, is_relation}
 use Rattle.table.specs.Results.{in_order}
@@ -7,8 +7,6 @@ use Rattle.table.specs.Rule.{NONE}
 use Rattle.table.specs.Trees.{plan_in, plan_of}
 use Rattle.newick.specs.Texts.{text, whole_text, digits_to, needed}
 use Rattle.newick.specs.Walks.{faulty, meets, meets_fault}
-use Rattle.newick.specs.declared.Printed.{Printed}
-use Rattle.newick.specs.declared.Printed.TheVariants.{Text, Refused}
 use Rattle.newick.specs.declared.Refusal.{Refusal}
 use Rattle.newick.specs.declared.Refusal.TheVariants.{Relations, ShortColumn, ShortText, NoPlan, NoTree}
 
@@ -44,9 +42,9 @@ number_of NoPlan = 7
 number_of ShortText = 9
 number_of NoTree = 10
 
-abbrev pub answer : Printed → Answer
-answer (Text length) = record { number = 0; length = length }
-answer (Refused why) = record { number = number_of why; length = 0 }
+abbrev pub answer : Outcome ℕ Refusal → Answer
+answer (Ok length) = record { number = 0; length = length }
+answer (Err why) = record { number = number_of why; length = 0 }
 
 -- ---- the result
 
@@ -55,7 +53,7 @@ pub record Result : Type 0 where
   pub answer : Answer
   pub room : List ℕ
 
-abbrev pub result_of : Printed → List ℕ → Result
+abbrev pub result_of : Outcome ℕ Refusal → List ℕ → Result
 result_of r room = record { answer = answer r; room = room }
 
 -- "Nothing written."

@@ -15,14 +15,13 @@ pub fn needed(n: u32) -> usize
     ensures { result ≡ needed n }
 {
     let k = n as usize;
-    let joins = 3 * (k - 1);
-    if k < 10 {
-        return k + joins + 1;
-    }
-    2 * k - 9 + joins + 1
+    let digits = if k < 10 { k } else { 2 * k - 9 };
+    digits + 3 * (k - 1) + 1
 }
 
-// The tree of `set` written from place `at` on; the place after it.
+// The tree of `set` written from place `at` on; the place after it. It writes by recursion into lent room, as document 01 has it, where
+// `Display` could fail.
+#[tactic(auto, using(crate::proofs::Writing::text_alone, crate::proofs::Writing::length_parts, crate::proofs::Writing::parts_written, crate::proofs::Writing::length_kept))]
 pub fn put_tree(lefts: &[u16], set: Set, out: &mut [u8], at: usize) -> usize
     requires walked { Walked lefts.now set.number }
     requires room { at + length (text (plan_of lefts.now set.number)) ≤ length out.old }
@@ -30,7 +29,7 @@ pub fn put_tree(lefts: &[u16], set: Set, out: &mut [u8], at: usize) -> usize
     ensures written { out.new ≡ sets out.old at (text (plan_of lefts.now set.number)) }
 {
     if !set.is_larger() {
-        return numbers::put_decimal(numbers::wide(set.lowest()), out, at);
+        return numbers::put_decimal(u64::from(set.lowest()), out, at);
     }
     let left = walks::left_part(lefts, set);
     let right = set.minus(left);

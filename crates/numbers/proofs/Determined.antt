@@ -3,10 +3,6 @@ use mathlib.Core.Path.{sym, ◌∙◌}
 use Rattle.numbers.specs.Determined.{Determined, DeterminedWith}
 use Rattle.numbers.proofs.product.Reads as Product
 use Rattle.numbers.proofs.put_decimal.Reads as PutDecimal
-use Rattle.numbers.proofs.wide.Reads as Wide
-
-wide_determined : Determined Wide.Post
-wide_determined k a x r q p s = p ∙ sym s
 
 product_determined : Determined Product.Post
 product_determined k a x r q p s = p ∙ sym s

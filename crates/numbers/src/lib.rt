@@ -5,21 +5,16 @@ ghost use Rattle.std.specs.Prelude.{◌≡◌, ◌+◌, ◌*◌, ◌<◌, ◌≤
 ghost use Rattle.std.proofs.lemmas.List.Edits.{sets};
 ghost use Rattle.numbers.specs.Texts.{digit, decimal};
 
-// The same number in 64 bits.
-pub fn wide(x: u32) -> u64
-    ensures { result ≡ x }
-{
-    x as u64
-}
-
 // The whole product: 64 bits hold it.
 pub fn product(a: u32, b: u32) -> u64
     ensures { result ≡ a * b }
 {
-    wide(a) * wide(b)
+    u64::from(a) * u64::from(b)
 }
 
-// A number written in decimal from place `at` on; the place after it.
+// A number written in decimal from place `at` on; the place after it. By hand, since std's `write!` may fail and does not say when, and
+// this never does.
+#[tactic(auto, using(crate::proofs::Writing::digit_by_digit))]
 pub fn put_decimal(x: u64, out: &mut [u8], at: usize) -> usize
     requires { at + length (decimal x) ≤ length out.old }
     ensures end { result ≡ at + length (decimal x) }
@@ -34,10 +29,10 @@ pub fn put_decimal(x: u64, out: &mut [u8], at: usize) -> usize
     last + 1
 }
 
-// The byte of a digit.
+// The byte of a digit. (`char::from_digit` answers an `Option` of a `char`.)
 fn digit(d: u64) -> u8
     requires { d < 10 }
     ensures { result ≡ digit d }
 {
-    (48 + d) as u8
+    b'0' + d as u8
 }

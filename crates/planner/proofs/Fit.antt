@@ -1,5 +1,5 @@
 -- Of figures that were read, up to 11 relations, a fill refuses only the model and the limit.
-use Prim.Native.Nat.{ℕ, zero, suc, ◌-◌, ◌*◌, ◌/◌, ◌^◌, ◌≤◌, ◌<◌}
+use Prim.Native.Nat.{ℕ, zero, suc, ◌+◌, ◌-◌, ◌*◌, ◌/◌, ◌^◌, ◌≤◌, ◌<◌}
 use native.Mathlib.Decide.{dec_lt}
 use native.Mathlib.Omega.{arith}
 use mathlib.Core.Bool.{Bool, true, false, cond}
@@ -19,9 +19,11 @@ use Rattle.figures.specs.declared.Figures.{Figures}
 use Rattle.figures.proofs.Stored.{pairs-most}
 use Rattle.table.specs.Requests.{fill, new_divisor, names}
 use Rattle.table.specs.Results.{any_zero, short, in_order, bad_figures, unfit, refusal}
-use Rattle.table.proofs.Columns.{there}
-use Rattle.table.proofs.Refusals.{none_zero}
+use Rattle.std.proofs.lemmas.List.{get_or_default}
+use Rattle.table.proofs.Refusals.{none_zero, pairs_end}
+use Rattle.relations.specs.Pairs.{place}
 use Rattle.planner.specs.Plans.{FEW, column, counts_of, divisors_of, call_of}
+use Rattle.planner.specs.Inner.{is_due}
 
 -- ---- the figures
 
@@ -48,7 +50,7 @@ module _ (f : Figures) (ok : Proper f) where
   -- none of them 0:
   divisor_pos : (k : ℕ) → Dec (k < pairs) → 1 ≤ get_or (divisors_of f) k 1
   unfolding divisors_of
-  divisor_pos k (yes l) = rw (get_or-take pairs f.divisors k 1 l, there f.divisors k 1 0 (omega (arith, divisors-there))) (ok.divided k l).0
+  divisor_pos k (yes l) = rw (get_or-take pairs f.divisors k 1 l, get_or_default f.divisors k 1 0 (omega (arith, divisors-there))) (ok.divided k l).0
   divisor_pos k (no l) = omega (arith, get_or-eq_default (divisors_of f) 1 {n = k} (omega (arith, divisors-long)))
 
   no_zero : any_zero (divisors_of f) ≡ false
@@ -58,6 +60,10 @@ module _ (f : Figures) (ok : Proper f) where
   figures-fit : (model limit : ℕ) → bad_figures f.n 1 (call_of f model limit).figures ≡ 0
   unfolding call_of bad_figures in_order first
   figures-fit model limit = rw (relation_is MOST f.n ok.some ok.few, eq-eqb _ _ counts-long, eq-eqb _ _ divisors-long, no_zero)
+
+-- The pairs of up to 15 relations fit into the array of divisors.
+pub pairs_fit : (n : ℕ) → n ≤ MOST → place 1 (n + 1) ≤ 105
+pairs_fit n few = omega (arith, pairs_end n, pairs-most n few)
 
 -- ---- the columns, the model and the limit
 
@@ -91,3 +97,13 @@ not_seven model limit = by (dec_lt model 3) (leb limit (2 ^ 60))
     by (yes l) true = rw (known model 0 0 0 l) (λ e. omega (arith, e))
     by (yes l) false = rw (known model 0 0 0 l) (λ e. omega (arith, e))
     by (no l) b = rw (unknown model 0 0 0 (omega arith)) (λ e. omega (arith, e))
+
+-- What is due of the two is 4 or 5.
+pub terms_due : (model limit : ℕ) → is_due (bad_terms model limit) ≡ true
+unfolding first
+terms_due model limit = by (dec_lt model 3) (leb limit (2 ^ 60))
+  where
+    by : Dec (model < 3) → (b : Bool) → is_due (first (priced model 0 0 0).number (cond b 0 5)) ≡ true
+    by (yes l) true = rw (known model 0 0 0 l) refl
+    by (yes l) false = rw (known model 0 0 0 l) refl
+    by (no l) b = rw (unknown model 0 0 0 (omega arith)) refl

@@ -3,7 +3,6 @@ use Prim.Native.Nat.{ℕ, ◌+◌, ◌-◌, ◌*◌, ◌≤◌, ◌<◌}
 use native.Mathlib.Decide.{dec_lt}
 use native.Mathlib.Omega.{arith}
 use mathlib.Core.List.{List}
-use mathlib.Core.Logic.{◌≢◌}
 use mathlib.Core.Path.{◌≡◌, refl, sym, ap, ◌∙◌, subst}
 use Rattle.relations.specs.Sets.{MOST}
 use Rattle.relations.proofs.Named.{all_is}
@@ -15,7 +14,8 @@ use Rattle.newick.specs.Texts.{digits_to, needed}
 use Rattle.newick.proofs.TextLaws.{text-length, digits-few, digits_more}
 use Rattle.planner.specs.Plans.{call_of, tree_of, Result, result_of, planned}
 use Rattle.planner.specs.Best.{fig}
-use Rattle.planner.specs.declared.Outcome.TheVariants.{Plan, Refused}
+use Rattle.planner.specs.declared.answers.Plan.{Plan}
+use Rattle.std.specs.Prelude.{Ok}
 use Rattle.planner.proofs.Demand2.{proper, best-fill, both, answer_is}
 
 -- "For n = 15 it is 64", and for fewer it is less.
@@ -42,24 +42,13 @@ module _ (text : List ℕ) (model limit : ℕ) (room : List ℕ) (z : (planned t
       ∙ text-length ((job_for model limit).profile (fig (judged text).figures)) n (tree_of (judged text).figures model limit) ok.some
       (subst (λ (S : ℕ). Over ((job_for model limit).profile (fig (judged text).figures)) S (tree_of (judged text).figures model limit)) (all_is n ok.few) over)
 
-  -- which is something,
-  pub length_some : 0 < (planned text model limit room).answer.length
-  unfolding needed
-  length_some = omega (arith, length_is)
-
   -- and 64 bytes at most.
   length_most : (planned text model limit room).answer.length ≤ 64
   length_most =
       let ok = proper text model limit room (both text model limit room z).0 in
       omega (arith, length_is, needed-most n ok.some ok.few)
 
--- So of what is answered a plan's text is short, and a refusal has a number.
-module _ (text : List ℕ) (model limit : ℕ) (room left : List ℕ) where
-  pub plan-short : (cost size l : ℕ) → result_of (Plan cost size l) left ≡ planned text model limit room → l ≤ 64
-  plan-short cost size l e =
-      subst (λ (r : Result). r.answer.number ≡ 0 → r.answer.length ≤ 64) (sym e) (length_most text model limit room) refl
-
-  pub refused-some : (number place : ℕ) → result_of (Refused number place) left ≡ planned text model limit room → number ≢ 0
-  refused-some number place e z =
-      let h = subst (λ (r : Result). r.answer.number ≡ 0 → 0 < r.answer.length) (sym e) (length_some text model limit room) z in
-      absurd (omega (arith, h))
+-- So of what is answered a plan's text is short.
+pub plan-short : (text : List ℕ) (model limit : ℕ) (room left : List ℕ) (p : Plan) → result_of (Ok p) left ≡ planned text model limit room → p.length ≤ 64
+plan-short text model limit room left p e =
+    subst (λ (r : Result). r.answer.number ≡ 0 → r.answer.length ≤ 64) (sym e) (length_most text model limit room) refl

@@ -4,7 +4,7 @@ use native.Mathlib.Decide.{dec_lt}
 use native.Mathlib.Omega.{arith}
 use mathlib.Core.Bool.{Bool, true, false, cond, ◌||◌}
 use mathlib.Core.List.{List}
-use mathlib.Core.Logic.{◌≢◌, ◌⊎◌, inl, inr}
+use mathlib.Core.Logic.{◌⊎◌, inl, inr}
 use mathlib.Core.Path.{◌≡◌, refl, sym, ap, ◌∙◌, subst}
 use lib.Dec.{eqb, leb, ltb}
 use lib.ListN.{length, get_or}
@@ -16,7 +16,7 @@ use Rattle.figures.specs.Judge.{Result as Judgement, judged}
 use Rattle.figures.specs.Written.{Proper}
 use Rattle.figures.specs.declared.Figures.{Figures}
 use Rattle.table.specs.Requests.{fill}
-use Rattle.table.specs.Results.{Call, in_order, refusal as fill_refusal, job_of, mended, worked, refused as no_plan, result, Result as Filled}
+use Rattle.table.specs.Results.{Call, in_order, refusal as fill_refusal, job_of, mended, worked, result, Result as Filled}
 use Rattle.table.specs.Rule.{NONE}
 use Rattle.table.specs.Tables.{row_at}
 use Rattle.table.proofs.Demand2.{optimal}
@@ -27,9 +27,23 @@ use Rattle.newick.specs.Shows.{ShowsPlan}
 use Rattle.newick.specs.Texts.{needed}
 use Rattle.newick.proofs.Refusals.{printed-refused}
 use Rattle.newick.proofs.Shown.{filled-room, fill_shows}
-use Rattle.planner.specs.Plans.{FEW, call_of, filled, tree_of, unfit, refusal, Result, refused, written, outcome, planned}
-use Rattle.planner.specs.Inner.{accepted, shown, after_fill}
-use Rattle.planner.proofs.Fit.{bad_terms, fill_refuses, not_seven}
+use Rattle.planner.specs.Plans.{FEW, call_of, filled, tree_of, unfit, refusal, Result, number_of, refused, written, outcome, planned}
+use Rattle.planner.specs.declared.answers.Refusal.{Refusal}
+use Rattle.planner.specs.declared.answers.Refusal.TheVariants.{File, Many, UnknownModel, HighLimit, ShortText, NoPlan}
+use Rattle.figures.proofs.Accepted.{number_pos as file_pos}
+use Rattle.planner.specs.Inner.{accepted, shown, after_fill, is_due}
+use Rattle.planner.proofs.Fit.{bad_terms, fill_refuses, not_seven, terms_due}
+
+-- ---- refusals
+
+-- A refusal has a number.
+pub number_pos : (why : Refusal) → 0 < number_of why
+number_pos (File fault) = file_pos fault.why
+number_pos Many = omega arith
+number_pos UnknownModel = omega arith
+number_pos HighLimit = omega arith
+number_pos ShortText = omega arith
+number_pos NoPlan = omega arith
 
 -- ---- the result, of a call that is accepted and of one that is refused
 
@@ -74,16 +88,6 @@ shown-refused cost size k room h = rw (ne_eqb k 0 (omega arith))
 
 -- ---- after the fill
 
--- A refusal but for 7 is answered,
-pub other-refusal : (r : Filled) (n k : ℕ) (room : List ℕ) → k ≡ r.answer.number → 0 < k → k ≢ 7 → refused k 0 room ≡ after_fill r n room
-unfolding after_fill
-other-refusal r n k room e h d = rw (← e, ne_eqb k 0 (omega arith), ne_eqb k 7 d)
-
--- and after 7 print is asked, without a cost and a size.
-pub none-asked : (r : Filled) (n : ℕ) (room : List ℕ) → r.answer ≡ no_plan 7 → shown 0 0 (printed n r.table.costs r.table.lefts room) ≡ after_fill r n room
-unfolding after_fill
-none-asked r n room e = rw e
-
 module _ (f : Figures) (ok : Proper f) (few : f.n ≤ FEW) (model limit : ℕ) where
   abbrev call : Call
   call = call_of f model limit
@@ -101,14 +105,17 @@ module _ (f : Figures) (ok : Proper f) (few : f.n ≤ FEW) (model limit : ℕ) w
   first-kept zero x false y e = e
   first-kept (suc k) x b y e = e
 
+  terms-first : (k : ℕ) (room : List ℕ) → bad_terms model limit ≡ suc k → refusal (accepted f) model limit (length room) ≡ suc k
+  unfolding refusal first
+  terms-first k room e = rw (unfit_is (length room) ∙ first-kept (priced model 0 0 0).number k (leb limit (2 ^ 60)) _ e)
+
   terms_refused : (k : ℕ) (room : List ℕ) → bad_terms model limit ≡ suc k → after_fill (filled f model limit) f.n room ≡ outcome (accepted f) model limit room
-  unfolding after_fill filled refusal first
+  unfolding after_fill filled
   terms_refused k room e =
       let r = fill_refuses f model limit ok few ∙ e in
       let seven : eqb (suc k) 7 ≡ false = ne_eqb (suc k) 7 (λ h. not_seven model limit (e ∙ h)) in
       rw (result-refused fill call (suc k) r (omega arith), ne_eqb (suc k) 0 (omega arith), seven)
-      (sym (outcome-refused (accepted f) model limit room (suc k)
-      (rw (unfit_is (length room) ∙ first-kept (priced model 0 0 0).number k (leb limit (2 ^ 60)) _ e)) (omega arith)))
+      (sym (outcome-refused (accepted f) model limit room (suc k) (terms-first k room e) (omega arith)))
 
   -- Where it refuses neither.
   module _ (e : bad_terms model limit ≡ 0) (room : List ℕ) where
@@ -201,3 +208,21 @@ module _ (f : Figures) (ok : Proper f) (few : f.n ≤ FEW) (model limit : ℕ) w
       by : (k : ℕ) → bad_terms model limit ≡ k → after_fill (filled f model limit) f.n room ≡ outcome (accepted f) model limit room
       by zero e = either e (optimal call (done e room)).either
       by (suc k) e = terms_refused k room e
+
+  -- It is a plan, 4, 5, 9 or 7.
+  pub outcome-due : (room : List ℕ) → is_due (outcome (accepted f) model limit room).answer.number ≡ true
+  unfolding first
+  outcome-due room = rw (outcome-number (accepted f) model limit room) (by (bad_terms model limit) refl)
+    where
+      no-room : (b : Bool) → (is_due (first (cond b 9 0) 0) ≡ true) × (is_due (first (cond b 9 0) 7) ≡ true)
+      no-room true = (refl, refl)
+      no-room false = (refl, refl)
+
+      either : (e : bad_terms model limit ≡ 0) → ((worked fill call).answer.number ≡ 0) ⊎ ((worked fill call).answer.number ≡ 7)
+          → is_due (refusal (accepted f) model limit (length room)) ≡ true
+      either e (inl z) = rw (refusal_is e room 0 z) (no-room (ltb (length room) (needed f.n))).0
+      either e (inr z) = rw (refusal_is e room 7 z) (no-room (ltb (length room) (needed f.n))).1
+
+      by : (k : ℕ) → bad_terms model limit ≡ k → is_due (refusal (accepted f) model limit (length room)) ≡ true
+      by zero e = either e (optimal call (done e room)).either
+      by (suc k) e = rw (terms-first k room e, ← e) (terms_due model limit)

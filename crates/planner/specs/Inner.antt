@@ -1,5 +1,5 @@
 -- What only the contracts of the inner functions cite. No promise to a caller rests on it.
-use Rattle.std.specs.Prelude.{ℕ, ◌||◌, cond, List, eqb}
+use Rattle.std.specs.Prelude.{ℕ, Bool, ◌||◌, cond, List, eqb}
 use Rattle.figures.specs.Judge.{Result as Judgement}
 use Rattle.figures.specs.declared.Figures.{Figures}
 use Rattle.table.specs.Results.{Result as Filled}
@@ -29,3 +29,7 @@ after_fill r n room =
     cond (eqb r.answer.number 0 || eqb r.answer.number 7)
     (shown r.answer.cost r.answer.size (printed n r.table.costs r.table.lefts room))
     (refused r.answer.number 0 room)
+
+-- What there is to answer once the figures of few relations were read: a plan, 4, 5, 9 or 7.
+abbrev pub is_due : ℕ → Bool
+is_due k = eqb k 0 || eqb k 4 || eqb k 5 || eqb k 9 || eqb k 7

@@ -1,16 +1,17 @@
 -- What is answered for the text of a figures file, a model, a limit and room for the tree (document 01, "Numbers answered").
-use Rattle.std.specs.Prelude.{ℕ, ◌+◌, ◌-◌, ◌*◌, ◌/◌, ◌^◌, cond, List, [], ◌∷◌, ◌++◌, ◌≡◌, refl, eqb, leb, ltb, length, take, drop, replicate}
+use Rattle.std.specs.Prelude.{ℕ, ◌+◌, ◌-◌, ◌*◌, ◌/◌, ◌^◌, cond, List, [], ◌∷◌, ◌++◌, ◌≡◌, refl, eqb, leb, ltb, length, take, drop, replicate, Result as Outcome, Ok, Err}
 use Rattle.numbers.specs.Texts.{digits, decimal}
 use Rattle.relations.specs.Sets.{all_of, first}
 use Rattle.charges.specs.Charges.{priced}
-use Rattle.figures.specs.Judge.{Result as Judgement, judged}
+use Rattle.figures.specs.Judge.{Result as Judgement, number_of as file_number, judged}
 use Rattle.figures.specs.declared.Figures.{Figures}
 use Rattle.table.specs.Requests.{fill}
 use Rattle.table.specs.Results.{Call, called, in_order, Result as Filled, result}
 use Rattle.table.specs.Trees.{Tree, plan_of}
 use Rattle.newick.specs.Texts.{whole_text, digits_to, needed}
-use Rattle.planner.specs.declared.Outcome.{Outcome}
-use Rattle.planner.specs.declared.Outcome.TheVariants.{Plan, Refused}
+use Rattle.planner.specs.declared.answers.Plan.{Plan}
+use Rattle.planner.specs.declared.answers.Refusal.{Refusal}
+use Rattle.planner.specs.declared.answers.Refusal.TheVariants.{File, Many, UnknownModel, HighLimit, ShortText, NoPlan}
 
 -- ---- the fill
 
@@ -74,11 +75,28 @@ pub record Result : Type 0 where
 abbrev pub refused_with : ℕ → ℕ → Answer
 refused_with number place = record { number = number; place = place; cost = 0; size = 0; length = 0 }
 
-abbrev pub answer : Outcome → Answer
-answer (Plan cost size length) = record { number = 0; place = 0; cost = cost; size = size; length = length }
-answer (Refused number place) = refused_with number place
+-- A refusal by its number in document 01's table, and its place: the reader's, or 0.
+abbrev pub number_of : Refusal → ℕ
+number_of (File fault) = file_number fault.why
+number_of Many = 16
+number_of UnknownModel = 4
+number_of HighLimit = 5
+number_of ShortText = 9
+number_of NoPlan = 7
 
-abbrev pub result_of : Outcome → List ℕ → Result
+abbrev pub place_of : Refusal → ℕ
+place_of (File fault) = fault.at
+place_of Many = 0
+place_of UnknownModel = 0
+place_of HighLimit = 0
+place_of ShortText = 0
+place_of NoPlan = 0
+
+abbrev pub answer : Outcome Plan Refusal → Answer
+answer (Ok p) = record { number = 0; place = 0; cost = p.cost; size = p.size; length = p.length }
+answer (Err why) = refused_with (number_of why) (place_of why)
+
+abbrev pub result_of : Outcome Plan Refusal → List ℕ → Result
 result_of x room = record { answer = answer x; room = room }
 
 -- "Nothing written."

@@ -1,10 +1,9 @@
 -- What the program prints for the bytes of its input (document 01, "Numbers answered"): "a line for each model", or "the one line
 -- `refused N at P`".
-use Rattle.std.specs.Prelude.{ℕ, zero, suc, ◌-◌, cond, List, [], ◌++◌, ◌≡◌, refl, eqb, ltb, length, take, replicate}
+use Rattle.std.specs.Prelude.{ℕ, zero, suc, cond, List, [], ◌++◌, ◌≡◌, refl, eqb, ltb, length, take, replicate}
 use Rattle.numbers.specs.Texts.{bytes, digits, decimal}
 use Rattle.figures.specs.Judge.{Result as Judgement, judged}
 use Rattle.planner.specs.Plans.{Result, outcome}
-use Rattle.planner.specs.declared.reports.Output.{Output}
 
 -- "At most 8,192 bytes."
 abbrev pub LONGEST : ℕ
@@ -47,9 +46,9 @@ lines j (suc k) model said =
 unfoldable pub printed : List ℕ → List ℕ
 printed text = cond (ltb LONGEST (length text)) (refused_line 11 LONGEST) (lines (judged text) MODELS 0 [])
 
--- The bytes printed, and 0 past them.
-abbrev pub output_of : List ℕ → Output
-output_of said = record { bytes = said ++ replicate (512 - length said) 0; length = length said }
+-- The room for what is printed, which is more than is ever needed.
+abbrev pub ROOM : ℕ
+ROOM = 512
 
 -- ---- computed: the first line of document 01's case 10, and a refusal
 

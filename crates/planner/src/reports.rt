@@ -1,12 +1,21 @@
 // What the program prints (document 01, "Numbers answered").
-ghost use Rattle.std.specs.Prelude.{◌≡◌, ◌+◌, ◌≤◌, length};
-ghost use Rattle.std.proofs.lemmas.List.Edits.{sets};
-ghost use Rattle.planner.specs.Reports.{spaced, line_of, refused_line, printed, output_of};
+ghost use Rattle.std.specs.Prelude.{◌≡◌, ◌+◌, ◌≤◌, ◌++◌, length};
+ghost use Rattle.numbers.specs.Texts.{decimal};
+ghost use Rattle.planner.specs.Plans.{number_of, place_of};
+ghost use Rattle.planner.specs.Reports.{ROOM, line_of, refused_line, printed};
 
-use crate::Outcome;
+use crate::{Plan, Refusal};
+use arrayvec::ArrayVec;
+use figures::Fault;
 
 // The most bytes that are read.
 const LONGEST: usize = 8192;
+
+// "More: 11 at place 8,192."
+const TOO_LONG: Refusal = Refusal::File(Fault {
+    why: figures::Refusal::Shape,
+    at: LONGEST,
+});
 
 // The limit of every plan: 2^60, the highest.
 const LIMIT: u64 = 1152921504606846976;
@@ -14,107 +23,81 @@ const LIMIT: u64 = 1152921504606846976;
 // How many models there are.
 const MODELS: u32 = 3;
 
-// The bytes to print and how many there are; what is past them is 0.
-#[derive(Clone, Copy)]
-pub struct Output {
-    pub bytes: [u8; 512],
-    pub length: usize,
-}
+// The bytes to print: three lines have 324 at most.
+pub type Output = ArrayVec<u8, 512>;
 
 // A line for each model, or the one line of a refusal.
 pub fn report(text: &[u8]) -> Output
-    ensures result { result ≡ output_of (printed text.now) }
+    ensures result { result.items ≡ printed text.now }
 {
     if LONGEST < text.len() {
-        return refused(11, LONGEST);
+        return refused(TOO_LONG);
     }
-    let mut bytes = [0u8; 512];
-    let mut length = 0;
-    let mut model = 0;
-    while model < MODELS {
-        let mut tree = [0u8; 64];
-        let found = crate::plan(text, model, LIMIT, &mut tree);
-        match found {
-            Outcome::Plan {
-                cost: cost,
-                size: size,
-                length: end,
-            } => {
-                length = put_line(model, cost, size, &tree[..end], &mut bytes, length);
-            }
-            Outcome::Refused {
-                number: number,
-                place: place,
-            } => {
-                return refused(number, place);
-            }
+    let mut out = Output::new();
+    for model in 0..MODELS {
+        let mut tree = [0; 64];
+        match crate::plan(text, model, LIMIT, &mut tree) {
+            Ok(plan) => put_line(&mut out, model, plan, &tree[..plan.length]),
+            Err(why) => return refused(why),
         }
-        model += 1;
     }
-    Output {
-        bytes: bytes,
-        length: length,
-    }
+    out
 }
 
-// The output of a refusal.
-fn refused(number: u32, place: usize) -> Output
-    ensures { result ≡ output_of (refused_line number place) }
+// The line of a refusal alone.
+#[tactic(auto, using(crate::proofs::Reported::refused_most))]
+fn refused(why: Refusal) -> Output
+    ensures { result.items ≡ refused_line (number_of why) (place_of why) }
 {
-    let mut bytes = [0u8; 512];
-    let length = put_refusal(number, place, &mut bytes);
-    Output {
-        bytes: bytes,
-        length: length,
-    }
+    let mut out = Output::new();
+    put_refusal(&mut out, u32::from(why), why.place());
+    out
 }
 
-// The line of a refusal written at the start; the place after it.
-fn put_refusal(number: u32, place: usize, out: &mut [u8]) -> usize
-    requires { length (refused_line number place) ≤ length out.old }
-    ensures end { result ≡ 0 + length (refused_line number place) }
-    ensures written { out.new ≡ sets out.old 0 (refused_line number place) }
+// The line of a refusal.
+#[tactic(auto, unfolding(crate::specs::Reports::refused_line))]
+fn put_refusal(out: &mut Output, number: u32, place: usize)
+    requires { length out.old.items + length (refused_line number place) ≤ ROOM }
+    ensures { out.new.items ≡ out.old.items ++ refused_line number place }
 {
-    let first = put(b"refused ", out, 0);
-    let second = numbers::put_decimal(numbers::wide(number), out, first);
-    let third = put(b" at ", out, second);
-    let fourth = numbers::put_decimal(place as u64, out, third);
-    put(b"\n", out, fourth)
+    put(out, b"refused ");
+    put_number(out, u64::from(number));
+    put(out, b" at ");
+    put_number(out, place as u64);
+    put(out, b"\n");
 }
 
-// The line of a model's plan written from place `at` on; the place after it.
-fn put_line(model: u32, cost: u64, size: u32, tree: &[u8], out: &mut [u8], at: usize) -> usize
-    requires { at + length (line_of model cost size tree.now) ≤ length out.old }
-    ensures end { result ≡ at + length (line_of model cost size tree.now) }
-    ensures written { out.new ≡ sets out.old at (line_of model cost size tree.now) }
+// The line of a model's plan.
+#[tactic(auto, unfolding(crate::specs::Reports::spaced, crate::specs::Reports::line_of))]
+fn put_line(out: &mut Output, model: u32, plan: Plan, tree: &[u8])
+    requires { length out.old.items + length (line_of model plan.cost plan.size tree.now) ≤ ROOM }
+    ensures { out.new.items ≡ out.old.items ++ line_of model plan.cost plan.size tree.now }
 {
-    let first = put_spaced(numbers::wide(model), out, at);
-    let second = put_spaced(cost, out, first);
-    let third = put_spaced(numbers::wide(size), out, second);
-    let end = put(tree, out, third);
-    put(b"\n", out, end)
+    put_number(out, u64::from(model));
+    put(out, b" ");
+    put_number(out, plan.cost);
+    put(out, b" ");
+    put_number(out, u64::from(plan.size));
+    put(out, b" ");
+    put(out, tree);
+    put(out, b"\n");
 }
 
-// A number and a space after it.
-fn put_spaced(x: u64, out: &mut [u8], at: usize) -> usize
-    requires { at + length (spaced x) ≤ length out.old }
-    ensures end { result ≡ at + length (spaced x) }
-    ensures written { out.new ≡ sets out.old at (spaced x) }
+// A number in decimal.
+#[tactic(auto, using(crate::proofs::Writing::digits_64))]
+fn put_number(out: &mut Output, x: u64)
+    requires { length out.old.items + length (decimal x) ≤ ROOM }
+    ensures { out.new.items ≡ out.old.items ++ decimal x }
 {
-    let end = numbers::put_decimal(x, out, at);
-    put(b" ", out, end)
+    let mut digits = [0; 20];
+    let end = numbers::put_decimal(x, &mut digits, 0);
+    put(out, &digits[..end]);
 }
 
-// Bytes written from place `at` on; the place after them.
-fn put(text: &[u8], out: &mut [u8], at: usize) -> usize
-    requires { at + length text.now ≤ length out.old }
-    ensures end { result ≡ at + length text.now }
-    ensures written { out.new ≡ sets out.old at text.now }
+// Bytes for which there is room. (`write!` into such a room does not promise that it succeeds.)
+fn put(out: &mut Output, text: &[u8])
+    requires { length out.old.items + length text.now ≤ ROOM }
+    ensures { out.new.items ≡ out.old.items ++ text.now }
 {
-    let mut i = 0;
-    while i < text.len() {
-        out[at + i] = text[i];
-        i += 1;
-    }
-    at + i
+    let _fits = out.try_extend_from_slice(text);
 }

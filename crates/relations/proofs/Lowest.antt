@@ -128,6 +128,9 @@ lowest_trailing (suc w) S p l = digit (S % 2) refl (λ q. lowest_trailing w (S /
     digit zero e ih = lowest-even S p e ∙ ap suc (ih (omega arith))
     digit (suc d) e ih = lowest-odd S (omega arith)
 
+-- Code: the lowest relation, or that there is none.
+pub ruleset code_lowest = (lowest_trailing, lowest-none)
+
 -- ---- the rest
 
 pub lowest-part : (S : ℕ) → Part (weight (lowest S)) S
@@ -280,3 +283,6 @@ ones-larger S = same_test (ltb 1 (ones S)) (leb 1 (rest S)) more two
         let r : 0 < rest S = leb-true 1 (rest S) h in
         let n : ¬ (ones (rest S) ≡ 0) = λ e. omega (arith, ones_none (rest S) e) in
         lt-ltb 1 (ones S) (omega (arith, ones-rest S (some rest none_rest S r)))
+
+-- How many digits of a set's number are 1 tells a single set from a larger one.
+pub ruleset code_ones = (ones-single, ones-larger)

@@ -77,15 +77,6 @@ step (suc k) S L W c h p e = by (ℕ_discrete (L % 2) (S % 2)) (step k (S / 2) (
 pub wrapped_next : (w S L W : ℕ) → S < 2 ^ w → Part L S → (W + S) % 2 ^ w ≡ L → Next S L (bit_and S W)
 wrapped_next w S L W h p e = step w S L W ((W + S) / 2 ^ w) h p (omega (arith, div-add-mod' (W + S) (2 ^ w)))
 
--- What wraps to L is one number.
-pub wrapped_is : (w S L W : ℕ) → S ≤ 2 ^ w → W < 2 ^ w → (W + S) % 2 ^ w ≡ L → W ≡ (L + (2 ^ w - S)) % 2 ^ w
-wrapped_is w S L W h l e =
-    sym (mod-eq_of_lt l) ∙ sym (add-mod_right W (2 ^ w)) ∙ ap (λ (x : ℕ). x % 2 ^ w) around
-    ∙ sym (mod-add-mod (W + S) (2 ^ w) (2 ^ w - S)) ∙ ap (λ (x : ℕ). (x + (2 ^ w - S)) % 2 ^ w) e
-  where
-    around : W + 2 ^ w ≡ W + S + (2 ^ w - S)
-    around = omega arith
-
 pub step-next : (w S L : ℕ) → S < 2 ^ w → Part L S → Next S L (wrapped_step w S L)
 unfolding wrapped_step
 step-next w S L h p =

@@ -1,5 +1,5 @@
 -- Sets of relations as numbers (document 01, "One numbering").
-use Rattle.std.specs.Prelude.{◌≡◌, ℕ, zero, suc, ◌+◌, ◌-◌, ◌/◌, ◌%◌, ◌^◌, Bool, true, false, cond, not, ◌&&◌, ◌==◌, ◌≢◌, nat_le, refl}
+use Rattle.std.specs.Prelude.{◌≡◌, ℕ, zero, suc, ◌+◌, ◌-◌, ◌/◌, ◌%◌, ◌^◌, Bool, true, false, cond, not, ◌&&◌, ◌==◌, ◌≢◌, Option, None, Some, nat_le, refl}
 
 -- "There are n relations, 1 to 15."
 abbrev pub MOST : ℕ
@@ -66,6 +66,11 @@ lowest S = lowest_to S S
 -- "and V the rest". It is empty for the empty set and for a relation alone, and for no other set.
 unfoldable pub rest : ℕ → ℕ
 rest S = S - weight (lowest S)
+
+-- A step over the relations of a set, the lowest first, from S with T left: it gives the lowest and leaves the rest, or there is none.
+abbrev pub LowestFirst : ℕ → Option ℕ → ℕ → Type 0
+LowestFirst S None T = (S ≡ EMPTY) × (T ≡ EMPTY)
+LowestFirst S (Some k) T = (S ≢ EMPTY) × (k ≡ lowest S) × (T ≡ rest S)
 
 -- "A single relation", and "a set S of two or more".
 unfoldable pub single : ℕ → Bool

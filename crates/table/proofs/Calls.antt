@@ -1,5 +1,7 @@
 -- What the three entry points share: a refusal, the work, and the demands that follow from the result.
-use Rattle.std.proofs.Common.{◌≡◌, ℕ, zero, suc, ◌^◌, ◌<◌, ◌≤◌, Bool, true, false, length, sym, refl, ◌∙◌, subst, ap₂, arith, le-leb}
+use Rattle.std.proofs.Common.{◌≡◌, ℕ, zero, suc, ◌^◌, ◌<◌, ◌≤◌, Bool, true, false, length, sym, refl, ◌∙◌, subst, ap, arith, le-leb}
+use Rattle.std.proofs.lemmas.Result.{err_from_is_err_and}
+use Rattle.std.specs.Prelude.{Result as Outcome, IsErrAnd}
 use mathlib.Core.Bool.{and-true}
 use Rattle.relations.proofs.Named.{is_relation_lem}
 use Rattle.relations.specs.Sets.{MOST, EMPTY, mem, one_of, all_of, inside}
@@ -8,23 +10,27 @@ use Rattle.relations.proofs.Places.{place-below}
 use Rattle.relations.proofs.Parts.{part_none, part-inside, inside-weight}
 use Rattle.table.specs.Figures.{Figures}
 use Rattle.table.specs.Tables.{Table, row_at, Room, mend_to}
-use Rattle.table.specs.Rule.{job_for, row_of}
 use Rattle.table.specs.Requests.{Request, fill, edit_count, edit_pair, change, touches, new_divisor, names}
-use Rattle.table.specs.Results.{Call, unfit, refusal, mended, job_of, Answer, planned, Result, untouched, result}
-use Rattle.table.specs.Demands.{Demand2, Demand3, Keeps, Optimal}
-use Rattle.table.specs.Inner.{holding}
+use Rattle.table.specs.Results.{Call, unfit, refusal, mended, job_of, Answer, number_of, answer, planned, Result, untouched, result}
+use Rattle.table.specs.Demands.{changed, Demand2, Demand3, Keeps, Optimal}
+use Rattle.table.specs.Inner.{holding, fold, folded}
+use Rattle.table.specs.declared.Plan.{Plan}
+use Rattle.table.specs.declared.Refusal.{Refusal}
 use Rattle.table.specs.declared.rows.Row.{Row}
 use Rattle.table.proofs.Mending.{mend_room}
-use Rattle.table.proofs.Refusals.{first_past, first_found, Accepted, fit, is_accepted, result-done, result-refused, is_pair_lem}
+use Rattle.table.proofs.Refusals.{first_past, first_found, number_pos, Accepted, fit, is_accepted, result-done, result-refused, is_pair_lem}
 use Rattle.table.proofs.Demand2.{optimal}
 use Rattle.table.proofs.Demand3.{demand_3, keeps}
 
 -- ---- refusals
 
--- A check that finds a refusal ends the call.
-pub check_refuses : (q : Request) (c : Call) (w : ℕ) → w ≡ unfit (new_divisor q) c → 0 < w → untouched c w ≡ result q c
+-- A check that finds a refusal ends the call, and its `?` answers that refusal.
+pub check_refuses : (q : Request) (c : Call) (r : Outcome Plan Refusal) (w : Refusal) → IsErrAnd r (λ v. v ≡ w)
+    → number_of w ≡ unfit (new_divisor q) c → record { answer = answer r; figures = c.figures; table = c.table } ≡ result q c
 unfolding refusal
-check_refuses q c w e h = sym (result-refused q c w (sym (first_found (unfit (new_divisor q) c) _ w e h)) h)
+check_refuses q c r w h e =
+    let p = err_from_is_err_and r h in
+    rw (p.1, p.2) (sym (result-refused q c (number_of w) (sym (first_found (unfit (new_divisor q) c) _ _ e (number_pos w))) (number_pos w)))
 
 pub name_refuses : (q : Request) (c : Call) → 0 ≡ unfit (new_divisor q) c → names q c.n ≡ false → untouched c 8 ≡ result q c
 unfolding refusal
@@ -77,19 +83,22 @@ pair_there i j v c a =
 
 -- ---- the work
 
--- With fig the changed figures, T the table after the work and a the answer that its full row gives.
+-- The table that the fold leaves, with the answer of its full row.
+pub folded_by : (f : ℕ → Bool) (c : Call) (T : Table) → T ≡ fold f c → (a : Answer) → a ≡ planned (row_at T (all_of c.n))
+    → record { answer = a; figures = c.figures; table = T } ≡ folded f c
+folded_by f c T e a p = rw (p, e)
+
+-- The fold over the touched sets, with fig the changed figures, is the whole result.
 pub work-done : (q : Request) (c : Call) (f : ℕ → Bool) → Accepted q c → ((S : ℕ) → f S ≡ touches q S)
     → (fig : Figures) → fig ≡ change q c.figures
-    → (T : Table) → T ≡ mend_to (row_of (job_for c.model c.limit) fig) f (2 ^ c.n) c.table
-    → (a : Answer) → a ≡ planned (row_at T (all_of c.n))
-    → record { answer = a; figures = fig; table = T } ≡ result q c
-work-done q c f acc h fig g T e a p = rw p (ap₂ done g there) ∙ sym (result-done q c (is_accepted q c acc))
+    → folded f (record { n = c.n; figures = fig; model = c.model; limit = c.limit; table = c.table }) ≡ result q c
+work-done q c f acc h fig g = rw g (ap done there) ∙ sym (result-done q c (is_accepted q c acc))
   where
-    done : Figures → Table → Result
-    done new U = record { answer = planned (row_at U (all_of c.n)); figures = new; table = U }
+    done : Table → Result
+    done U = record { answer = planned (row_at U (all_of c.n)); figures = change q c.figures; table = U }
 
-    there : T ≡ mended q c
-    there = e ∙ unfold mended job_of in rw g (mend_same _ f (touches q) h (2 ^ c.n) c.table)
+    there : fold f (changed q c) ≡ mended q c
+    there = unfold mended job_of in mend_same _ f (touches q) h (2 ^ c.n) c.table
 
 -- The columns stay long enough.
 pub mended-room : (rule : Table → ℕ → Row) (f : ℕ → Bool) (k : ℕ) (T U : Table) {m : ℕ} → Room T m → U ≡ mend_to rule f k T → Room U m
@@ -97,8 +106,24 @@ mended-room rule f k T U r e = rw e (mend_room rule f k T r)
 
 -- ---- the demands
 
-pub fill-clauses : (c : Call) (r : Result) → r ≡ result fill c → (r ≡ result fill c) × (Demand2 c r × Keeps fill c r)
-fill-clauses c r e = (e, (λ h. subst (Optimal c) (sym (e ∙ result-done fill c h)) (optimal c h), subst (Keeps fill c) (sym e) (keeps fill c)))
+pub fill_clauses : (c : Call) (r : Result) → r ≡ result fill c → record { result : r ≡ result fill c; demand_2 : Demand2 c r; keeps : Keeps fill c r }
+fill_clauses c r e = record {
+  result = e;
+  demand_2 = λ h. subst (Optimal c) (sym (e ∙ result-done fill c h)) (optimal c h);
+  keeps = subst (Keeps fill c) (sym e) (keeps fill c);
+}
 
-pub edit_clauses : (q : Request) (c : Call) (r : Result) → r ≡ result q c → (r ≡ result q c) × (Demand3 q c r × Keeps q c r)
-edit_clauses q c r e = (e, (subst (Demand3 q c) (sym e) (demand_3 q c), subst (Keeps q c) (sym e) (keeps q c)))
+pub edit_clauses : (q : Request) (c : Call) (r : Result) → r ≡ result q c
+    → record { result : r ≡ result q c; demand_3 : Demand3 q c r; keeps : Keeps q c r }
+edit_clauses q c r e = record {
+  result = e;
+  demand_3 = subst (Demand3 q c) (sym e) (demand_3 q c);
+  keeps = subst (Keeps q c) (sym e) (keeps q c);
+}
+
+-- An edit whose work is the fold over the sets that it touches.
+pub edit_done : (q : Request) (c : Call) (f : ℕ → Bool) → Accepted q c → ((S : ℕ) → f S ≡ touches q S)
+    → (fig : Figures) → fig ≡ change q c.figures
+    → (r : Result) → r ≡ folded f (record { n = c.n; figures = fig; model = c.model; limit = c.limit; table = c.table })
+    → record { result : r ≡ result q c; demand_3 : Demand3 q c r; keeps : Keeps q c r }
+edit_done q c f a h fig g r e = edit_clauses q c r (e ∙ work-done q c f a h fig g)

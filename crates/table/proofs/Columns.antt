@@ -1,14 +1,8 @@
 -- What the theory uses of a table: a row that is written is read back, the others are as they were, no column grows or shrinks, and
 -- a table is its columns' lengths and its rows.
-use Rattle.std.proofs.Common.{◌≡◌, ℕ, zero, suc, ◌<◌, Bool, true, false, ◌≢◌, List, [], ◌∷◌, length, get_or, refl, ap, ◌∙◌, arith, length-set, get_or-set_other, get_or-set_same, ext_get_or}
+use Rattle.std.proofs.Common.{◌≡◌, ℕ, zero, suc, ◌<◌, Bool, true, false, ◌≢◌, length, refl, ap, ◌∙◌, arith, length-set, get_or-set_other, get_or-set_same, ext_get_or}
 use Rattle.table.specs.Tables.{Table, row_at, write_row, Room, mend_row, mend_to}
 use Rattle.table.specs.declared.rows.Row.{Row}
-
--- What is there is read whatever stands for what is not.
-pub there : (xs : List ℕ) (i a b : ℕ) → i < length xs → get_or xs i a ≡ get_or xs i b
-there [] i a b h = absurd (omega arith)
-there (x ∷ xs) zero a b h = refl
-there (x ∷ xs) (suc i) a b h = there xs i a b (omega arith)
 
 pub row_same : (T : Table) (S : ℕ) (r : Row) {m : ℕ} → Room T m → S < m → row_at (write_row T S r) S ≡ r
 unfolding row_at write_row

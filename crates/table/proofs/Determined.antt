@@ -1,17 +1,18 @@
 -- Each public contract determines its answer and what it leaves in all memory lent.
 use Rattle.std.proofs.Common.{◌≡◌, ℕ, List, [], ◌∷◌, get_or, sym, refl, ap, ◌∙◌, arith}
+use Rattle.std.specs.Prelude.{Result as Outcome, Ok, Err}
 use Rattle.numbers.specs.Determined.{Determined, DeterminedWith}
 use Rattle.table.specs.Tables.{Table, columns}
 use Rattle.table.specs.Results.{number_of, Answer, answer, Result}
-use Rattle.table.specs.declared.Planned.{Planned}
-use Rattle.table.specs.declared.Planned.TheVariants.{Plan, Refused}
+use Rattle.table.specs.declared.Plan.{Plan}
 use Rattle.table.specs.declared.Refusal.{Refusal}
 use Rattle.table.specs.declared.Refusal.TheVariants.{Relations, Lengths, ZeroDivisor, UnknownModel, HighLimit, ShortColumn, NoPlan, Name}
 use Rattle.table.proofs.Refusals.{number_pos}
 use Rattle.table.proofs.fill.Reads as Fill
 use Rattle.table.proofs.edit_count.Reads as EditCount
 use Rattle.table.proofs.edit_pair.Reads as EditPair
-use Rattle.table.proofs.number_of.Reads as NumberOf
+use Rattle.table.proofs.RefusalFromUnknownModel.from.Reads as Unknown
+use Rattle.table.proofs.U32FromRefusal.from.Reads as NumberOf
 
 -- A refusal is known by its number.
 refusal_of : ℕ → Refusal
@@ -28,14 +29,14 @@ refusal_of_lem ShortColumn = refl
 refusal_of_lem NoPlan = refl
 refusal_of_lem Name = refl
 
--- Number, cost and size tell the answers of the enum apart.
-answer_tells : (r q : Planned) → answer r ≡ answer q → r ≡ q
-answer_tells (Plan c s) (Plan d t) e = ap (λ (x : Answer). Plan x.cost x.size) e
-answer_tells (Plan c s) (Refused w) e = absurd (omega (arith, ap (λ (x : Answer). x.number) e, number_pos w))
-answer_tells (Refused w) (Plan c s) e = absurd (omega (arith, ap (λ (x : Answer). x.number) e, number_pos w))
-answer_tells (Refused w) (Refused v) e = ap Refused (sym (refusal_of_lem w) ∙ ap (λ (x : Answer). refusal_of x.number) e ∙ refusal_of_lem v)
+-- Number, cost and size tell the answers apart.
+answer_tells : (r q : Outcome Plan Refusal) → answer r ≡ answer q → r ≡ q
+answer_tells (Ok p) (Ok o) e = ap (λ (x : Answer). Ok (record { cost = x.cost; size = x.size })) e
+answer_tells (Ok p) (Err w) e = absurd (omega (arith, ap (λ (x : Answer). x.number) e, number_pos w))
+answer_tells (Err w) (Ok p) e = absurd (omega (arith, ap (λ (x : Answer). x.number) e, number_pos w))
+answer_tells (Err w) (Err v) e = ap Err (sym (refusal_of_lem w) ∙ ap (λ (x : Answer). refusal_of x.number) e ∙ refusal_of_lem v)
 
-told : {x y : Result} → x ≡ y → (r q : Planned) → x.answer ≡ answer r → y.answer ≡ answer q → r ≡ q
+told : {x y : Result} → x ≡ y → (r q : Outcome Plan Refusal) → x.answer ≡ answer r → y.answer ≡ answer q → r ≡ q
 told e r q p s = answer_tells r q (sym p ∙ ap (λ (z : Result). z.answer) e ∙ s)
 
 -- A fill leaves the three columns.
@@ -56,6 +57,9 @@ pair_determined : DeterminedWith {L = List ℕ × Table} EditPair.Post
 pair_determined k a x y r q p s =
     let e = p.0 ∙ sym s.0 in
     (told e r q refl refl, ap (λ (z : Result). (z.figures.divisors, z.table)) e)
+
+unknown_determined : Determined Unknown.Post
+unknown_determined k a x r q p s = p ∙ sym s
 
 number_of_determined : Determined NumberOf.Post
 number_of_determined k a x r q p s = p ∙ sym s

@@ -1,5 +1,6 @@
 -- The product of the divisors across: it is taken one relation at a time, and holding it at 2^64-1 alters no size.
-use Rattle.std.proofs.Common.{◌≡◌, ℕ, zero, suc, ◌+◌, ◌-◌, ◌*◌, ◌/◌, ◌%◌, ◌^◌, ◌<◌, ◌≤◌, min, Bool, true, false, cond, ◌≢◌, ◌⊎◌, List, length, get_or, sym, refl, ap, ◌∙◌, inl, inr, mul-le-mul_right, mod-eq_of_lt, mul_assoc, mul_comm, div-lt_iff_lt-mul, eq-zero-or-pos, mul-le-mul, one-mul, le-div_iff_mul-le, zero-add, mul-one, le-mul_of_pos_right, arith}
+use Rattle.std.proofs.Common.{◌≡◌, ℕ, zero, suc, ◌+◌, ◌-◌, ◌*◌, ◌/◌, ◌%◌, ◌^◌, ◌<◌, ◌≤◌, min, Bool, true, false, cond, ◌≢◌, ◌⊎◌, List, length, get_or, sym, refl, ap, ◌∙◌, inl, inr, mul-le-mul_right, mod-eq_of_lt, mul_assoc, mul_comm, eq-zero-or-pos, mul-le-mul, one-mul, zero-add, mul-one, le-mul_of_pos_right, arith}
+use Rattle.std.proofs.lemmas.List.{get_or_default}
 use native.Mathlib.Decide.{dec_le, dec_lt, ℕ_discrete}
 use native.Mathlib.Nat.{one-le-mul}
 use native.Mathlib.Nat.{min-le_left, min-eq_left, min-eq_right, div-eq_of_lt}
@@ -14,7 +15,6 @@ use Rattle.relations.proofs.Places.{place-below}
 use Rattle.charges.specs.Charges.{up}
 use Rattle.table.specs.Figures.{Figures, CEILING, count, divisor, across, joined}
 use Rattle.table.specs.Inner.{Complete, HELD}
-use Rattle.table.proofs.Columns.{there}
 use Rattle.table.proofs.Rules.{larger-rest}
 
 -- ---- one relation at a time
@@ -104,21 +104,12 @@ up-held x d h = by (dec_lt HELD d)
 
 pub divisor_at_lem : (ds : List ℕ) (i j : ℕ) → place i j < length ds → divisor ds i j ≡ get_or ds (place i j) 0
 unfolding divisor
-divisor_at_lem ds i j h = there ds (place i j) 1 0 h
+divisor_at_lem ds i j h = get_or_default ds (place i j) 1 0 h
 
 pub count_at : (counts : List ℕ) (k : ℕ) → 1 ≤ k → count counts k ≡ get_or counts (k - 1) 0
 unfolding count
 count_at counts zero h = absurd (omega arith)
 count_at counts (suc p) h = ap (λ (i : ℕ). get_or counts i 0) (omega arith)
-
--- ---- a product that is held
-
--- Whether a times d passes 2^64-1 is told by a quotient.
-pub held_past : (a d : ℕ) → 0 < d → HELD / d < a → HELD ≡ min HELD (a * d)
-held_past a d h l = let g = (div-lt_iff_lt-mul h).0 l in sym (min-eq_left {n = HELD} {m = a * d} (omega arith))
-
-pub held_whole : (a d : ℕ) → 0 < d → a ≤ HELD / d → a * d ≤ HELD
-held_whole a d h l = (le-div_iff_mul-le h).0 l
 
 -- ---- the loop over the relations of X: those of Y are left, and p is the held product of the others' divisors
 

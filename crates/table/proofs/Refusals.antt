@@ -1,22 +1,19 @@
 -- What the checks find: where none refuses, the figures, the model, the limit and the columns are fit.
-use Rattle.std.proofs.Common.{◌≡◌, ℕ, zero, suc, ◌+◌, ◌-◌, ◌*◌, ◌/◌, ◌^◌, ◌<◌, ◌≤◌, min, max, Bool, true, false, cond, not, ◌&&◌, ◌||◌, eqb, ltb, leb, ◌≢◌, ◌⊎◌, List, [], ◌∷◌, length, get_or, sym, refl, ◌∙◌, inl, inr, eq-or-lt_of_le, arith, pow_pos, ltb-false, le-ltb, lt-ltb, eq-eqb, ne_eqb, eqb-true, le-leb, leb-true}
-use native.Mathlib.Decide.{dec_le, dec_lt}
+use Rattle.std.proofs.lemmas.Bool.Decides.{nat_tests}
+use Rattle.std.specs.List.{list_any}
+use Rattle.std.specs.Prelude.{◌==◌}
+use Rattle.std.proofs.Common.{◌≡◌, ℕ, zero, suc, ◌+◌, ◌-◌, ◌*◌, ◌/◌, ◌^◌, ◌<◌, ◌≤◌, min, max, Bool, true, false, cond, not, ◌&&◌, eqb, ◌≢◌, List, [], ◌∷◌, get_or, refl, ◌∙◌, arith, pow_pos, eq-eqb, ne_eqb, eqb-true, le-leb, leb-true}
 use mathlib.Core.Bool.{and-eq-true_iff}
-use lib.ListN.{get_or-eq_default}
-use borrow.Author.Tests.{eqb-false, lt-leb, not-true}
+use borrow.Author.Tests.{eqb-false, not-true}
 use Rattle.numbers.proofs.Tests.{neither}
 use Rattle.relations.specs.Pairs.{place}
-use Rattle.relations.specs.Sets.{MOST, first, is_relation}
-use Rattle.relations.proofs.Named.{is_relation_lem, relation_is}
+use Rattle.relations.specs.Sets.{MOST, all_of, first, is_relation}
+use Rattle.relations.proofs.Named.{all_is, is_relation_lem, relation_is}
 use Rattle.relations.proofs.Places.{before-all}
-use Rattle.charges.specs.Charges.{priced}
-use Rattle.table.specs.Figures.{Figures}
 use Rattle.table.specs.Tables.{Table, Room}
 use Rattle.table.specs.Requests.{Request, new_divisor, names, edit_pair, is_pair}
 use Rattle.table.specs.declared.Refusal.{Refusal}
 use Rattle.table.specs.declared.Refusal.TheVariants.{Relations, Lengths, ZeroDivisor, UnknownModel, HighLimit, ShortColumn, NoPlan, Name}
-use Rattle.table.proofs.Reasoning.{by_test}
-use Rattle.table.proofs.Columns.{there}
 use Rattle.table.specs.Results.{number_of, Call, any_zero, short, in_order, bad_figures, unfit, refusal, worked, untouched, result}
 use Rattle.table.specs.Inner.{Fit}
 
@@ -36,12 +33,6 @@ pub first_found : (a b w : ℕ) → w ≡ a → 0 < w → w ≡ first a b
 unfolding first
 first_found zero b w e h = absurd (omega arith)
 first_found (suc a) b w e h = e
-
-first-last : (k : ℕ) (b : Bool) → first (cond b k 0) 0 ≡ cond b k 0
-unfolding first
-first-last zero true = refl
-first-last (suc k) true = refl
-first-last k false = refl
 
 -- ---- a test that refuses
 
@@ -66,54 +57,23 @@ unfolding any_zero
 none_zero [] h = refl
 none_zero (d ∷ ds) h = rw (ne_eqb d 0 (omega (arith, h 0)), none_zero ds (λ k. h (suc k)))
 
--- Looked through from the start: a 0 is found, or none up to i, or none at all.
-pub zero_found : (ds : List ℕ) (i : ℕ) → i < length ds → get_or ds i 0 ≡ 0 → any_zero ds ≡ true
+-- The library's look for a 0.
+pub zero_any : (ds : List ℕ) → list_any (λ d. d == 0) ds ≡ any_zero ds
 unfolding any_zero
-zero_found [] i l e = absurd (omega arith)
-zero_found (d ∷ ds) zero l e = rw (eq-eqb d 0 e)
-zero_found (d ∷ ds) (suc i) l e = by_test (eqb d 0) (λ q. rw q) (λ q. rw q (zero_found ds i (omega arith) e))
+zero_any [] = refl
+zero_any (d ∷ ds) = rw (zero_any ds)
 
-abbrev pub NoZero : List ℕ → ℕ → Type 0
-NoZero ds i = (k : ℕ) → k < i → 1 ≤ get_or ds k 1
-
-pub zero_first : (ds : List ℕ) → NoZero ds 0
-zero_first ds k l = absurd (omega arith)
-
-pub zero_next : (ds : List ℕ) (i : ℕ) → i < length ds → get_or ds i 0 ≢ 0 → NoZero ds i → NoZero ds (i + 1)
-zero_next ds i l h f k g = by (eq-or-lt_of_le (omega arith))
-  where
-    by : (k ≡ i) ⊎ (k < i) → 1 ≤ get_or ds k 1
-    by (inl e) = rw e (omega (arith, there ds i 0 1 l))
-    by (inr q) = f k q
-
-pub zero_last : (ds : List ℕ) (i : ℕ) → length ds ≤ i → NoZero ds i → any_zero ds ≡ false
-zero_last ds i h f = none_zero ds (λ k. by k (dec_lt k i))
-  where
-    by : (k : ℕ) → Dec (k < i) → 1 ≤ get_or ds k 1
-    by k (yes l) = f k l
-    by k (no l) = omega (arith, get_or-eq_default ds 1 {n = k} (omega arith))
-
--- A column that ends at the full set, the last of 2^n, or before.
-pub edge : (n x full : ℕ) → full ≡ 2 ^ n - 1 → leb x full ≡ ltb x (2 ^ n)
-edge n x full e = by (dec_le x full)
-  where
-    whole : full + 1 ≡ 2 ^ n
-    whole = omega (arith, pow_pos n)
-
-    by : Dec (x ≤ full) → leb x full ≡ ltb x (2 ^ n)
-    by (yes h) = le-leb x full h ∙ sym (lt-ltb x (2 ^ n) (omega (arith, whole)))
-    by (no h) = lt-leb x full (omega arith) ∙ sym (le-ltb x (2 ^ n) (omega (arith, whole)))
+-- The full set is the last of 2^n.
+pub full_last : (n : ℕ) → n ≤ MOST → all_of n + 1 ≡ 2 ^ n
+full_last n h = omega (arith, all_is n h, pow_pos n)
 
 long-enough : (T : Table) (m : ℕ) → short T m ≡ false → Room T m
 unfolding short
-long-enough T m e =
-    let a = neither (ltb (length T.sizes) m || ltb (length T.costs) m) (ltb (length T.lefts) m) e in
-    let b = neither (ltb (length T.sizes) m) (ltb (length T.costs) m) a.0 in
-    record { sizes = ltb-false _ _ b.0; costs = ltb-false _ _ b.1; lefts = ltb-false _ _ a.1 }
+long-enough T m e = record { sizes = grind (arith, nat_tests); costs = grind (arith, nat_tests); lefts = grind (arith, nat_tests) }
 
 enough-long : (T : Table) (m : ℕ) → Room T m → short T m ≡ false
 unfolding short
-enough-long T m r = rw (le-ltb _ _ r.sizes, le-ltb _ _ r.costs, le-ltb _ _ r.lefts)
+enough-long T m r = grind (arith, nat_tests)
 
 -- The first place past the pairs of n relations.
 pub pairs_end : (n : ℕ) → place 1 (n + 1) ≡ n * (n - 1) / 2
@@ -161,22 +121,6 @@ fit d c e =
       room = long-enough c.table (2 ^ c.n) (passed_false 5 _ e4.0);
     }
 
--- Figures of the right number and lengths have only their divisors to be refused for.
-pub only-divisors : (n d : ℕ) (fig : Figures) → is_relation MOST n ≡ true → length fig.counts ≡ n → length fig.divisors ≡ place 1 (n + 1)
-    → bad_figures n d fig ≡ cond (eqb d 0 || any_zero fig.divisors) 3 0
-unfolding bad_figures in_order first
-only-divisors n d fig e p q = rw (e, eq-eqb _ _ p, eq-eqb _ _ (q ∙ pairs_end n)) (first-last 3 (eqb d 0 || any_zero fig.divisors))
-
--- Fit figures, a known model and an allowed limit leave only the columns to be refused for.
-pub only-columns : (d : ℕ) (c : Call) → 0 ≡ bad_figures c.n d c.figures → 0 ≡ (priced c.model 0 0 0).number → c.limit ≤ 2 ^ 60
-    → unfit d c ≡ cond (short c.table (2 ^ c.n)) 6 0
-unfolding unfit in_order first
-only-columns d c e p l = rw (← e, ← p, le-leb c.limit (2 ^ 60) l) (first-last 6 (short c.table (2 ^ c.n)))
-
-pub few-figures : (n d : ℕ) (fig : Figures) → bad_figures n d fig ≡ 0 → n ≤ MOST
-unfolding bad_figures in_order
-few-figures n d fig e = (is_relation_lem MOST n (passed_true 0 _ (first_zero _ _ e).0)).1
-
 pub is_fit : (d : ℕ) (c : Call) → Fit d c → unfit d c ≡ 0
 unfolding unfit bad_figures in_order first
 is_fit d c f =
@@ -190,21 +134,6 @@ is_fit d c f =
       le-leb c.limit (2 ^ 60) f.limit,
       enough-long c.table (2 ^ c.n) f.room,
     )
-
--- The same figures and job are fit on other columns, and their number is that of the row counts.
-pub fit-onto : (d : ℕ) (c : Call) (T : Table) → Fit d c → Room T (2 ^ c.n)
-    → Fit d (record { n = length c.figures.counts; figures = c.figures; model = c.model; limit = c.limit; table = T })
-fit-onto d c T f r = rw f.counts (record {
-  some = f.some;
-  few = f.few;
-  counts = f.counts;
-  divisors = f.divisors;
-  new = f.new;
-  stored = f.stored;
-  model = f.model;
-  limit = f.limit;
-  room = r;
-})
 
 -- ---- names
 

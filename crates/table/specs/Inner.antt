@@ -1,14 +1,13 @@
 -- What the contracts of the inner functions speak of. No promise to a caller rests on it.
-use Rattle.std.specs.Prelude.{◌≡◌, ℕ, ◌-◌, ◌*◌, ◌/◌, ◌^◌, ◌≤◌, min, Bool, ◌&&◌, length, slice_index_or}
-use Rattle.relations.specs.Sets.{MOST, inside}
+use Rattle.std.specs.Prelude.{◌≡◌, ℕ, ◌-◌, ◌*◌, ◌/◌, ◌^◌, ◌≤◌, min, Bool, ◌&&◌, length, slice_index_or, Result as Outcome, Ok, Err}
+use Rattle.relations.specs.Sets.{MOST, all_of, inside}
 use Rattle.charges.specs.Charges.{priced, charge}
 use Rattle.table.specs.Figures.{Figures}
-use Rattle.table.specs.Tables.{Room}
-use Rattle.table.specs.Rule.{Job, bushy}
-use Rattle.table.specs.Results.{Call, number_of}
+use Rattle.table.specs.Tables.{Table, Room, row_at, mend_to}
+use Rattle.table.specs.Rule.{Job, bushy, job_for, row_of}
+use Rattle.table.specs.Results.{Call, number_of, planned, Result}
 use Rattle.table.specs.declared.splits.Split.{Split}
-use Rattle.table.specs.declared.checks.Checked.{Checked}
-use Rattle.table.specs.declared.checks.Checked.TheVariants.{Passed, Failed}
+use Rattle.table.specs.declared.Refusal.{Refusal}
 
 -- A divisor for each pair of relations, and none is 0.
 pub record Complete (fig : Figures) : Type 0 where
@@ -35,10 +34,17 @@ under above b = record { cost = min b.cost above; left = b.left }
 unfoldable pub holding : ℕ → ℕ → ℕ → Bool
 holding a b S = inside a S && inside b S
 
+-- What the row rule, applied in rising number to the sets below 2^n that f picks, leaves, and what its full row answers.
+abbrev pub fold : (ℕ → Bool) → Call → Table
+fold f c = mend_to (row_of (job_for c.model c.limit) c.figures) f (2 ^ c.n) c.table
+
+abbrev pub folded : (ℕ → Bool) → Call → Result
+folded f c = record { answer = planned (row_at (fold f c) (all_of c.n)); figures = c.figures; table = fold f c }
+
 -- What the checks find, by its number.
-abbrev pub found : Checked → ℕ
-found Passed = 0
-found (Failed why) = number_of why
+abbrev pub found : Outcome Unit Refusal → ℕ
+found (Ok _) = 0
+found (Err why) = number_of why
 
 -- What the checks 1 to 6 make sure of where none refuses, one by one. The new divisor is d.
 pub record Fit (d : ℕ) (c : Call) : Type 0 where

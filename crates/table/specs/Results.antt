@@ -1,5 +1,5 @@
 -- What fill and edits answer and leave behind, for accepted and refused calls alike (document 01, "Numbers answered").
-use Rattle.std.specs.Prelude.{◌≡◌, ℕ, ◌+◌, ◌-◌, ◌*◌, ◌/◌, ◌^◌, Bool, false, cond, ◌||◌, List, [], ◌∷◌, length, replicate, ◌==◌, nat_le, nat_lt, refl}
+use Rattle.std.specs.Prelude.{◌≡◌, ℕ, ◌+◌, ◌-◌, ◌*◌, ◌/◌, ◌^◌, Bool, false, cond, ◌||◌, List, [], ◌∷◌, length, replicate, ◌==◌, nat_le, nat_lt, Result as Outcome, Ok, Err, refl}
 use Rattle.relations.specs.Sets.{MOST, weight, mem, all_of, first, lowest_to, lowest, rest, larger, is_relation}
 use Rattle.charges.specs.Charges.{priced}
 use Rattle.table.specs.Figures.{Figures, figures, count, size_rule}
@@ -7,8 +7,7 @@ use Rattle.table.specs.Tables.{Table, columns, row_at, write_row, mend_row, mend
 use Rattle.table.specs.Rule.{NONE, Job, job_for, split_of, row_with, row_of}
 use Rattle.table.specs.Requests.{Request, fill, edit_count, edit_pair, change, touches, new_divisor, is_pair, names}
 use Rattle.table.specs.declared.rows.Row.{Row}
-use Rattle.table.specs.declared.Planned.{Planned}
-use Rattle.table.specs.declared.Planned.TheVariants.{Plan, Refused}
+use Rattle.table.specs.declared.Plan.{Plan}
 use Rattle.table.specs.declared.Refusal.{Refusal}
 use Rattle.table.specs.declared.Refusal.TheVariants.{Relations, Lengths, ZeroDivisor, UnknownModel, HighLimit, ShortColumn, NoPlan, Name}
 
@@ -100,9 +99,9 @@ number_of ShortColumn = 6
 number_of NoPlan = 7
 number_of Name = 8
 
-abbrev pub answer : Planned → Answer
-answer (Plan cost size) = record { number = 0; cost = cost; size = size }
-answer (Refused why) = refused (number_of why)
+abbrev pub answer : Outcome Plan Refusal → Answer
+answer (Ok p) = record { number = 0; cost = p.cost; size = p.size }
+answer (Err why) = refused (number_of why)
 
 -- ---- the result
 
@@ -112,7 +111,7 @@ pub record Result : Type 0 where
   pub figures : Figures
   pub table : Table
 
-abbrev pub result_of : Planned → List ℕ → List ℕ → List ℕ → List ℕ → List ℕ → Result
+abbrev pub result_of : Outcome Plan Refusal → List ℕ → List ℕ → List ℕ → List ℕ → List ℕ → Result
 result_of r counts divisors sizes costs lefts = record {
   answer = answer r;
   figures = figures counts divisors;
@@ -162,7 +161,7 @@ edited = (refl, refl, refl, refl)
 
 answered : (planned (record { size = 8; cost = 5; left = 1 }) ≡ record { number = 0; cost = 5; size = 8 })
     × (planned (record { size = 8; cost = NONE; left = 0 }) ≡ record { number = 7; cost = 0; size = 0 })
-    × (answer (Refused Name) ≡ record { number = 8; cost = 0; size = 0 })
+    × (answer (Err Name) ≡ record { number = 8; cost = 0; size = 0 })
 unfolding planned
 answered = (refl, refl, refl)
 

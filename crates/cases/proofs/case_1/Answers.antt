@@ -3,11 +3,12 @@ use Rattle.std.proofs.Common.{refl, ap}
 use Rattle.table.specs.Results.{Result}
 use Rattle.newick.specs.Results.{Result as Print}
 use Rattle.cases.specs.Cases.{passes, shown}
+use Rattle.cases.proofs.Found.{plan_is}
 use Rattle.cases.proofs.case_1.Goals as goal
 
 pub expect-requires : goal.expect-requires
 unfolding passes
-expect-requires c = rw (c.is_plan.ensures, ap (λ (r : Result). r.answer) c.fill-found.ensures.result) refl
+expect-requires c = rw (c.eq.ensures, plan_is _ (record { cost = 0; size = 10 }) (ap (λ (r : Result). r.answer) c.fill-found.ensures.result)) refl
 
 pub expect-requires-2 : goal.expect-requires-2
 unfolding passes

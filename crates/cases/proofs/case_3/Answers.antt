@@ -3,15 +3,16 @@ use Rattle.std.proofs.Common.{refl, ap}
 use Rattle.table.specs.Results.{Result}
 use Rattle.newick.specs.Results.{Result as Print}
 use Rattle.cases.specs.Cases.{passes, shown}
+use Rattle.cases.proofs.Found.{plan_is}
 use Rattle.cases.proofs.case_3.Goals as goal
 
 pub expect-requires : goal.expect-requires
 unfolding passes
-expect-requires c = rw (c.is_plan.ensures, ap (λ (r : Result). r.answer) c.fill_three-found.ensures) refl
+expect-requires c = rw (c.eq.ensures, plan_is _ (record { cost = 106; size = 86 }) (ap (λ (r : Result). r.answer) c.fill_three-found.ensures)) refl
 
 pub expect-requires-2 : goal.expect-requires-2
 unfolding passes
-expect-requires-2 c = rw (c.are_sizes.ensures, ap (λ (r : Result). r.table.sizes) c.fill_three-found.ensures) refl
+expect-requires-2 c = rw (c.eq-2.ensures, ap (λ (r : Result). r.table.sizes) c.fill_three-found.ensures) refl
 
 pub expect-requires-3 : goal.expect-requires-3
 unfolding passes

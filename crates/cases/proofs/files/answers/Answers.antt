@@ -7,4 +7,4 @@ use Rattle.cases.proofs.files.answers.Goals as goal
 pub expect-requires : goal.expect-requires
 unfolding answers_to
 expect-requires c =
-    c.is_answer.ensures ∙ ap (λ (r : Result). is_answer r c.args.number c.args.place) c.read-found.ensures.result ∙ c.requires
+    c.is_answer.ensures ∙ ap (λ (r : Result). is_answer r c.args.number c.args.place) c.read.ensures.result ∙ c.requires

@@ -1,7 +1,6 @@
 -- An accepted text stands for the number 0 and the place 0; a refused one has its own.
-use Rattle.std.proofs.Common.{ℕ, zero, suc, ◌≡◌, refl, sym, ◌∙◌, eqb, eq-eqb}
+use Rattle.std.proofs.Common.{ℕ, zero, suc, ◌≡◌, refl, sym, ◌∙◌, eqb, eq-eqb, ne_eqb}
 use lib.Dec.{eqb-zero-suc, eqb-suc-zero}
-use borrow.Author.Tests.{ne_eqb}
 use Rattle.cases.specs.Files.{is_answer}
 use Rattle.cases.proofs.files.is_answer.Goals as goal
 
@@ -12,16 +11,16 @@ zero_first (suc k) = eqb-suc-zero k ∙ sym (eqb-zero-suc k)
 
 pub returns-then-number-eq0 : goal.returns-then-number-eq0
 unfolding is_answer
-returns-then-number-eq0 c = rw (c.in_default.is, c.if-number-eq0.true) (zero_first c.args.place)
+returns-then-number-eq0 c = rw (c.in-Ok.is, c.if-number-eq0.true) (zero_first c.args.place)
 
 pub returns-else-number-eq0 : goal.returns-else-number-eq0
 unfolding is_answer
-returns-else-number-eq0 c = rw (c.in_default.is, ← zero_first c.args.number, ne_eqb _ _ c.if-number-eq0.false)
+returns-else-number-eq0 c = rw (c.in-Ok.is, ← zero_first c.args.number, ne_eqb _ _ c.if-number-eq0.false) refl
 
-pub returns-then-number_of-number : goal.returns-then-number_of-number
+pub returns-then-from-number : goal.returns-then-from-number
 unfolding is_answer
-returns-then-number_of-number c = rw (c.in-Refused.is, ← c.number_of.ensures, eq-eqb _ _ c.if-number_of-number.true)
+returns-then-from-number c = rw (c.in-Err.is, ← c.from.ensures, eq-eqb _ _ c.if-from-number.true) refl
 
-pub returns-else-number_of-number : goal.returns-else-number_of-number
+pub returns-else-from-number : goal.returns-else-from-number
 unfolding is_answer
-returns-else-number_of-number c = rw (c.in-Refused.is, ← c.number_of.ensures, ne_eqb _ _ c.if-number_of-number.false)
+returns-else-from-number c = rw (c.in-Err.is, ← c.from.ensures, ne_eqb _ _ c.if-from-number.false) refl

@@ -1,12 +1,11 @@
-use Rattle.std.proofs.Common.{ℕ, ◌≡◌, suc, ◌+◌, ◌-◌, ◌≤◌, ◌<◌, true, false, Bool, List, refl, sym, ap, ◌∙◌, arith}
+use Rattle.std.proofs.Common.{ℕ, ◌≡◌, suc, ◌+◌, ◌-◌, ◌≤◌, ◌<◌, true, false, Bool, List, sym, ◌∙◌, arith}
 use Rattle.relations.specs.Sets.{MOST, is_relation}
 use Rattle.relations.proofs.Named.{is_relation_lem}
 use Rattle.figures.specs.Entries.{in_triangle}
 use Rattle.figures.specs.Judge.{Result}
-use Rattle.figures.specs.Inner.{line_answer, flag}
+use Rattle.figures.specs.Inner.{flag}
 use Rattle.figures.specs.declared.Figures.{Figures}
 use Rattle.figures.proofs.Collected.{triangle, triangle_is}
-use Rattle.figures.proofs.Told.{unread}
 use Rattle.figures.proofs.Turns.{Kept, first-kept, line_refused, twice, no_divisor, next-kept, bytes_follow, count_missing, all_read}
 use Rattle.figures.proofs.entries.read_entries.Goals as goal
 
@@ -34,60 +33,61 @@ few n h = (is_relation_lem MOST n h).1
 pub no_entries-figures-requires : goal.no_entries-figures-requires
 no_entries-figures-requires c = few c.args.n c.requires
 
-pub loop-k-init : goal.loop-k-init
-loop-k-init c = record {
+pub loop-init : goal.loop-init
+loop-init c = record {
   in_range = omega arith;
+  taken = omega arith;
+  turns = omega arith;
   kept = first-kept _ _ _ _ _ _ (few c.args.n c.requires) (omega arith) c.no_entries-figures.ensures;
 }
 
 pub returns-in_default : goal.returns-in_default
 returns-in_default c =
-    let h = before_line c.args.m c.loop-k.k c.loop-k.invariant.kept c.loop-k-test.true in
-    unread c.without_figures.ensures (c.answer.ensures ∙ ap line_answer c.in_default.is)
-    ∙ line_refused h c.entry_line-line.result c.entry_line-line.ensures.reads c.in_default.is
+    let h = before_line c.args.m c.loop.counter c.loop.invariant.kept c.loop-test.true in
+    line_refused h c.entry_line-line.result c.entry_line-line.ensures.reads c.unwrap_err.ensures
 
 pub returns-then-twice : goal.returns-then-twice
 returns-then-twice c =
-    let h = before_line c.args.m c.loop-k.k c.loop-k.invariant.kept c.loop-k-test.true in
-    unread c.without_figures-then-twice.ensures refl
-    ∙ twice h c.entry_line-line.result c.entry_line-line.ensures.reads c.in-Numbers.is c.in-Numbers.ensures.inside c.if-twice.true
+    let h = before_line c.args.m c.loop.counter c.loop.invariant.kept c.loop-test.true in
+    rw c.at.ensures (twice h c.entry_line-line.result c.entry_line-line.ensures.reads c.in-Ok.is c.in-Ok.ensures.inside c.if-twice.true)
 
 pub returns-then-no_divisor : goal.returns-then-no_divisor
 returns-then-no_divisor c =
-    let h = before_line c.args.m c.loop-k.k c.loop-k.invariant.kept c.loop-k-test.true in
-    let new : flag c.loop-k.seen (c.in-Numbers.i - 1) (c.in-Numbers.j - 1) ≡ false = cc in
-    unread c.without_figures-then-no_divisor.ensures refl
-    ∙ no_divisor h c.entry_line-line.result c.entry_line-line.ensures.reads c.in-Numbers.is c.in-Numbers.ensures.inside new
-    (sym c.is_zero_divisor-no_divisor.ensures ∙ c.if-no_divisor.true)
+    let h = before_line c.args.m c.loop.counter c.loop.invariant.kept c.loop-test.true in
+    let new : flag c.loop.seen (c.in-Ok.i - 1) (c.in-Ok.j - 1) ≡ false = cc in
+    rw c.at-then-no_divisor.ensures
+    (no_divisor h c.entry_line-line.result c.entry_line-line.ensures.reads c.in-Ok.is c.in-Ok.ensures.inside new
+    (sym c.is_zero_divisor-no_divisor.ensures ∙ c.if-no_divisor.true))
 
 pub with_entry-figures-requires : goal.with_entry-figures-requires
 with_entry-figures-requires c =
-    let t = named c.args.n _ _ c.loop-k.invariant.kept.few c.in-Numbers.ensures.inside in
+    let t = named c.args.n _ _ c.loop.invariant.kept.few c.in-Ok.ensures.inside in
     triangle_is MOST _ _ t.0 t.1 t.2
 
-pub loop-k-preserved : goal.loop-k-preserved
-loop-k-preserved c =
-    let h = before_line c.args.m c.loop-k.k c.loop-k.invariant.kept c.loop-k-test.true in
+pub loop-preserved : goal.loop-preserved
+loop-preserved c =
+    let h = before_line c.args.m c.loop.counter c.loop.invariant.kept c.loop-test.true in
     record {
       in_range = omega arith;
+      taken = omega (arith, c.in-Ok.ensures.onward);
+      turns = omega (arith, c.in-Ok.ensures.onward);
       kept =
           rw c.with_entry-figures.ensures
-          (next-kept h c.entry_line-line.result c.entry_line-line.ensures.reads c.in-Numbers.is c.in-Numbers.ensures.inside c.if-twice.false
+          (next-kept h c.entry_line-line.result c.entry_line-line.ensures.reads c.in-Ok.is c.in-Ok.ensures.inside c.if-twice.false
           (sym c.is_zero_divisor-no_divisor.ensures ∙ c.if-no_divisor.false));
     }
 
 pub returns-then-bytes_follow : goal.returns-then-bytes_follow
 returns-then-bytes_follow c =
-    let h = after_last c.args.m c.loop-k.k c.loop-k.invariant.kept c.loop-k-test.false in
-    unread c.without_figures-then-bytes_follow.ensures refl ∙ bytes_follow h c.if-bytes_follow.true
+    let h = after_last c.args.m c.loop.counter c.loop.invariant.kept c.loop-test.false in
+    rw c.at-then-bytes_follow.ensures (bytes_follow h c.if-bytes_follow.true)
 
 pub returns-then-not-all_seen : goal.returns-then-not-all_seen
 returns-then-not-all_seen c =
-    let h = after_last c.args.m c.loop-k.k c.loop-k.invariant.kept c.loop-k-test.false in
-    unread c.without_figures-then-not-all_seen.ensures refl
-    ∙ count_missing h c.if-bytes_follow.false (sym c.all_seen.ensures ∙ c.if-not-all_seen.true)
+    let h = after_last c.args.m c.loop.counter c.loop.invariant.kept c.loop-test.false in
+    rw c.at-then-not-all_seen.ensures (count_missing h c.if-bytes_follow.false (sym c.all_seen.ensures ∙ c.if-not-all_seen.true))
 
 pub returns : goal.returns
 returns c =
-    let h = after_last c.args.m c.loop-k.k c.loop-k.invariant.kept c.loop-k-test.false in
+    let h = after_last c.args.m c.loop.counter c.loop.invariant.kept c.loop-test.false in
     all_read h c.if-bytes_follow.false (sym c.all_seen.ensures ∙ c.if-not-all_seen.false)

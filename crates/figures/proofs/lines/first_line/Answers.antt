@@ -1,40 +1,44 @@
-use Rattle.std.proofs.Common.{◌≡◌, ℕ, ◌+◌, ◌<◌, List, ◌∷◌, length, take, drop, ◌∙◌, arith}
-use native.Mathlib.Nat.{sub-zero, zero-add}
-use lib.Seq.{length-take-le}
-use Rattle.figures.specs.Lines.{FEED, split}
-use Rattle.figures.specs.Judge.{on_line, first_line, judged}
-use Rattle.figures.specs.Inner.{up_to}
-use Rattle.figures.proofs.Cutting.{found, unfound, line-fed}
+use Rattle.std.proofs.Common.{◌≡◌, ℕ, List, [], ◌∷◌, nat_eq, not, take, true, false, Bool, refl, sym, ap, ◌∙◌, ◌&&◌}
+use native.Mathlib.Nat.{zero-add}
+use lib.Pointwise.{pointwise}
+use Rattle.numbers.specs.Texts.{same_list}
+use Rattle.figures.specs.Judge.{Result, faulty, comments, HEADING, first_line, judged}
+use Rattle.figures.proofs.Told.{line_open, line-ends}
 use Rattle.figures.proofs.lines.first_line.Goals as goal
 
--- There is a first line, and it is judged.
-there :
-    (text : List ℕ) (end : ℕ) →
-    end ≡ 0 + up_to FEED (drop 0 text) →
-    end < length text →
-    split FEED text ≡ take end text ∷ split FEED (drop (end + 1) text)
-there text end e l = found FEED 0 end text e l ∙ rw (sub-zero end)
+-- How the judge of line 1 goes on.
+abbrev heading : List ℕ → ℕ → List (List ℕ) → Result
+heading l next rest = faulty 11 0 (not (same_list l HEADING)) (comments next rest)
 
-pub returns-then-text-end : goal.returns-then-text-end
-unfolding judged first_line on_line
-returns-then-text-end c = rw (unfound FEED 0 c.find-end.result c.args.text.now c.find-end.ensures c.if-text-end.true)
+-- `==` compares as the judge does.
+same : (xs ys : List ℕ) → pointwise nat_eq xs ys ≡ same_list xs ys
+unfolding same_list
+same [] [] = refl
+same [] (y ∷ ys) = refl
+same (x ∷ xs) [] = refl
+same (x ∷ xs) (y ∷ ys) = ap (λ (b : Bool). nat_eq x y && b) (same xs ys)
 
-pub returns-then-not-same : goal.returns-then-not-same
+other : (l : List ℕ) (b t : Bool) → b ≡ not (pointwise nat_eq l HEADING) → b ≡ t → not (same_list l HEADING) ≡ t
+other l b t e h = ap not (sym (same l HEADING)) ∙ sym e ∙ h
+
+pub returns-in_default : goal.returns-in_default
 unfolding judged first_line
-returns-then-not-same c =
-    let text : List ℕ = c.args.text.now in
-    let end : ℕ = c.find-end.result in
-    rw (there text end c.find-end.ensures c.if-text-end.false, line-fed 0 (take end text) (drop (end + 1) text), ← c.if-not-same.ensures)
+returns-in_default c = rw c.at.ensures (sym (line_open c.args.text.now 0 heading c.in_default.ensures.first))
+
+pub returns-then-ne : goal.returns-then-ne
+unfolding judged first_line
+returns-then-ne c =
+    rw (
+      c.at-then-ne.ensures,
+      line-ends c.args.text.now 0 heading c.in-Some.end c.in-Some.ensures.first c.in-Some.ensures.within,
+      other (take c.in-Some.end c.args.text.now) _ true c.ne.ensures c.if-ne.true,
+    )
 
 pub returns : goal.returns
 unfolding judged first_line
 returns c =
-    let text : List ℕ = c.args.text.now in
-    let end : ℕ = c.find-end.result in
     rw (
-      there text end c.find-end.ensures c.if-text-end.false,
-      line-fed 0 (take end text) (drop (end + 1) text),
-      ← c.if-not-same.ensures,
-      length-take-le end text (omega arith),
-      zero-add end,
+      line-ends c.args.text.now 0 heading c.in-Some.end c.in-Some.ensures.first c.in-Some.ensures.within,
+      other (take c.in-Some.end c.args.text.now) _ false c.ne.ensures c.if-ne.false,
+      zero-add c.in-Some.end,
     )

@@ -1,113 +1,157 @@
-use Rattle.std.proofs.Common.{◌≡◌, ℕ, ◌+◌, ◌-◌, ◌<◌, ◌≤◌, List, [], ◌∷◌, length, take, drop, sym, ap, ◌∙◌, arith}
-use native.Mathlib.Nat.{sub-zero}
-use lib.ListN.{length-drop}
-use lib.Seq.{take_all}
-use Rattle.figures.specs.Lines.{SPACE, split, numbers_in, numbers_of}
-use Rattle.figures.specs.Inner.{up_to, word_of, words_of}
-use Rattle.figures.specs.declared.words.Word.TheVariants as word
-use Rattle.figures.specs.declared.words.Words.TheVariants as words
-use Rattle.figures.proofs.Cutting.{found, unfound, fourth_word}
+use Rattle.std.proofs.Common.{◌≡◌, ℕ, ◌<◌, true, false, List, [], ◌∷◌, length, eqb, ◌&&◌, rules, refl, sym, ap, ◌∙◌, arith}
+use mathlib.Core.Bool.{and-false}
+use Rattle.std.specs.Prelude.{Option, Some, None, is_some}
+use Rattle.std.specs.List.{slice_split}
+use Rattle.std.proofs.lemmas.Iterator.{YieldsList}
+use Rattle.std.proofs.lemmas.Iterator.Splits.{YieldsList-from_slice_split}
+use Rattle.figures.specs.Lines.{SPACE, is_number, none, numbers_in, numbers_of}
+use Rattle.figures.specs.Inner.{word_of, words_of}
+use Rattle.figures.proofs.Cutting.{split_is}
 use Rattle.figures.proofs.Digits.{word_said, word_none}
 use Rattle.figures.proofs.words.three.Goals as goal
 
+-- ---- one call of `next`
+
+-- It takes the first of what is left;
+record Next {S A B : Type 0} (steps : S → Option A → S → Type 0) (v : A → B) (x : A) (t : S) (ys : List B) : Type 0 where
+  rest : List B
+  is : ys ≡ v x ∷ rest
+  road : YieldsList steps v t rest
+
+module _ {S A B : Type 0} {steps : S → Option A → S → Type 0} {v : A → B} {s : S} where
+  next : {ys : List B} → YieldsList steps v s ys → (x : A) (t : S) → steps s (Some x) t → Next steps v x t ys
+  next {ys = []} h x t k = absurd (h.runs x t k)
+  next {ys = y ∷ ys} h x t k = let m = h.runs.1 x t k in record { rest = ys; is = ap (λ (z : B). z ∷ ys) (sym m.0); road = record { runs = m.1 } }
+
+  -- or nothing is left.
+  ended : {ys : List B} → YieldsList steps v s ys → (t : S) → steps s None t → ys ≡ []
+  ended {ys = []} h t k = refl
+  ended {ys = y ∷ ys} h t k = absurd (h.runs.0 t k)
+
+  -- By whether it took one.
+  some_left : {ys : List B} → YieldsList steps v s ys → (r : Option A) (t : S) → steps s r t → is_some r ≡ true → 0 < length ys
+  some_left h None t k e = absurd (cc)
+  some_left h (Some x) t k e = rw (next h x t k).is (omega arith)
+
+  none_left : {ys : List B} → YieldsList steps v s ys → (r : Option A) (t : S) → steps s r t → is_some r ≡ false → ys ≡ []
+  none_left h None t k e = ended h t k
+  none_left h (Some x) t k e = absurd (cc)
+
 -- ---- the words
 
--- The end of the word that starts at `at`: its space, or the line's end.
-abbrev Ends : List ℕ → ℕ → ℕ → Type 0
-Ends line at end = end ≡ at + up_to SPACE (drop at line)
+one_none : (x : List ℕ) → numbers_in (x ∷ []) ≡ none
+unfolding numbers_in
+one_none x = refl
 
-module _ (line : List ℕ) (first : ℕ) (e : Ends line 0 first) (l : first < length line) where
-  abbrev x : List ℕ
-  x = take first line
+two_none : (x y : List ℕ) → numbers_in (x ∷ y ∷ []) ≡ none
+unfolding numbers_in
+two_none x y = refl
 
-  one : split SPACE line ≡ x ∷ split SPACE (drop (first + 1) line)
-  one = found SPACE 0 first line e l ∙ rw (sub-zero first)
+-- One that is no number is enough,
+first_none : (x : List ℕ) (ws : List (List ℕ)) → is_number x ≡ false → numbers_in (x ∷ ws) ≡ none
+unfolding numbers_in
+first_none x [] e = refl
+first_none x (y ∷ []) e = refl
+first_none x (y ∷ z ∷ []) e = rw e
+first_none x (y ∷ z ∷ w ∷ ws) e = refl
 
-  one-only : (second : ℕ) → Ends line (first + 1) second → length line ≤ second → words.Refused ≡ words_of (numbers_of line)
+second_none : (x y : List ℕ) (ws : List (List ℕ)) → is_number y ≡ false → numbers_in (x ∷ y ∷ ws) ≡ none
+unfolding numbers_in
+second_none x y [] e = refl
+second_none x y (z ∷ []) e = rw (e, and-false (is_number x))
+second_none x y (z ∷ w ∷ ws) e = refl
+
+third_none : (x y z : List ℕ) (ws : List (List ℕ)) → is_number z ≡ false → numbers_in (x ∷ y ∷ z ∷ ws) ≡ none
+unfolding numbers_in
+third_none x y z [] e = rw (e, and-false (is_number x && is_number y))
+third_none x y z (w ∷ ws) e = refl
+
+-- and a fourth is one too many.
+fourth_none : (x y z : List ℕ) (ws : List (List ℕ)) → 0 < length ws → numbers_in (x ∷ y ∷ z ∷ ws) ≡ none
+unfolding numbers_in
+fourth_none x y z [] l = absurd (omega arith)
+fourth_none x y z (w ∷ ws) l = refl
+
+module _ (line : List ℕ) {ws : List (List ℕ)} (cut : slice_split (λ c. eqb c 32) line ≡ ws) where
+  unread : numbers_in ws ≡ none → None ≡ words_of (numbers_of line)
+  unfolding numbers_of
+  unread e = rw (split_is SPACE line, cut, e)
+
+module _ (line x y z : List ℕ) (cut : slice_split (λ c. eqb c 32) line ≡ x ∷ y ∷ z ∷ []) where
+  read : (a b c : ℕ) → Some a ≡ word_of x → Some b ≡ word_of y → Some c ≡ word_of z → Some (a, b, c) ≡ words_of (numbers_of line)
   unfolding numbers_of numbers_in
-  one-only second f m = rw (one, unfound SPACE (first + 1) second line f m)
+  read a b c d e f =
+      let p = word_said x a (sym d) in
+      let q = word_said y b (sym e) in
+      let r = word_said z c (sym f) in
+      rw (split_is SPACE line, cut, p.0, q.0, r.0, p.1, q.1, r.1)
 
-  module _ (second : ℕ) (f : Ends line (first + 1) second) (m : second < length line) where
-    abbrev y : List ℕ
-    y = take (second - (first + 1)) (drop (first + 1) line)
+pub returns-in_err-a : goal.returns-in_err-a
+returns-in_err-a c =
+    let all = YieldsList-from_slice_split {s = c.split-words.result} _ (λ x. eqb x 32) c.args.line.now c.split-words.ensures.rest
+    c.split-words.ensures.done c.split-words.ensures.closure
+    (λ x r q k. (refl, let e = rw k.shows at k.called.met in search (rules, e) fits 20000)) in
+    let x = next all c.in_ok-next.field-0 c.next.new.self c.in_ok-next.ensures.steps in
+    rw c.from_residual-in_err-a.ensures (unread c.args.line.now x.is (first_none _ x.rest (word_none _ (sym c.in_err-a.ensures))))
 
-    abbrev z : List ℕ
-    z = drop (second + 1) line
+pub returns-in_err-next-2 : goal.returns-in_err-next-2
+returns-in_err-next-2 c =
+    let all = YieldsList-from_slice_split {s = c.split-words.result} _ (λ x. eqb x 32) c.args.line.now c.split-words.ensures.rest
+    c.split-words.ensures.done c.split-words.ensures.closure
+    (λ x r q k. (refl, let e = rw k.shows at k.called.met in search (rules, e) fits 20000)) in
+    let x = next all c.in_ok-next.field-0 c.next.new.self c.in_ok-next.ensures.steps in
+    let last = ended x.road c.next-2.new.self c.in_err-next-2.ensures.steps in
+    rw c.from_residual-in_err-next-2.ensures (unread c.args.line.now (rw last at x.is) (one_none _))
 
-    two : split SPACE line ≡ x ∷ y ∷ split SPACE z
-    two = one ∙ ap (λ (ws : List (List ℕ)). x ∷ ws) (found SPACE (first + 1) second line f m)
+pub returns-in_err-b : goal.returns-in_err-b
+returns-in_err-b c =
+    let all = YieldsList-from_slice_split {s = c.split-words.result} _ (λ x. eqb x 32) c.args.line.now c.split-words.ensures.rest
+    c.split-words.ensures.done c.split-words.ensures.closure
+    (λ x r q k. (refl, let e = rw k.shows at k.called.met in search (rules, e) fits 20000)) in
+    let x = next all c.in_ok-next.field-0 c.next.new.self c.in_ok-next.ensures.steps in
+    let y = next x.road c.in_ok-next-2.field-0 c.next-2.new.self c.in_ok-next-2.ensures.steps in
+    rw c.from_residual-in_err-b.ensures
+    (unread c.args.line.now (rw y.is at x.is) (second_none _ _ y.rest (word_none _ (sym c.in_err-b.ensures))))
 
-    more : (third : ℕ) → Ends line (second + 1) third → third < length line → words.Refused ≡ words_of (numbers_of line)
-    unfolding numbers_of
-    more third g k = rw (two, found SPACE (second + 1) third line g k, fourth_word x y _ (drop (third + 1) line))
+pub returns-in_err-next-3 : goal.returns-in_err-next-3
+returns-in_err-next-3 c =
+    let all = YieldsList-from_slice_split {s = c.split-words.result} _ (λ x. eqb x 32) c.args.line.now c.split-words.ensures.rest
+    c.split-words.ensures.done c.split-words.ensures.closure
+    (λ x r q k. (refl, let e = rw k.shows at k.called.met in search (rules, e) fits 20000)) in
+    let x = next all c.in_ok-next.field-0 c.next.new.self c.in_ok-next.ensures.steps in
+    let y = next x.road c.in_ok-next-2.field-0 c.next-2.new.self c.in_ok-next-2.ensures.steps in
+    let last = ended y.road c.next-3.new.self c.in_err-next-3.ensures.steps in
+    rw c.from_residual-in_err-next-3.ensures (unread c.args.line.now (rw last at (rw y.is at x.is)) (two_none _ _))
 
-    module _ (third : ℕ) (g : Ends line (second + 1) third) (k : length line ≤ third) where
-      all : split SPACE line ≡ x ∷ y ∷ z ∷ []
-      all = two ∙ ap (λ (ws : List (List ℕ)). x ∷ y ∷ ws) (unfound SPACE (second + 1) third line g k)
+pub returns-in_err-c : goal.returns-in_err-c
+returns-in_err-c c =
+    let all = YieldsList-from_slice_split {s = c.split-words.result} _ (λ x. eqb x 32) c.args.line.now c.split-words.ensures.rest
+    c.split-words.ensures.done c.split-words.ensures.closure
+    (λ x r q k. (refl, let e = rw k.shows at k.called.met in search (rules, e) fits 20000)) in
+    let x = next all c.in_ok-next.field-0 c.next.new.self c.in_ok-next.ensures.steps in
+    let y = next x.road c.in_ok-next-2.field-0 c.next-2.new.self c.in_ok-next-2.ensures.steps in
+    let z = next y.road c.in_ok-next-3.field-0 c.next-3.new.self c.in_ok-next-3.ensures.steps in
+    rw c.from_residual-in_err-c.ensures
+    (unread c.args.line.now (rw z.is at (rw y.is at x.is)) (third_none _ _ _ z.rest (word_none _ (sym c.in_err-c.ensures))))
 
-      -- The third word goes to the line's end.
-      abbrev last : List ℕ
-      last = take (length line - (second + 1)) z
-
-      z-part : last ≡ z
-      z-part = take_all (length line - (second + 1)) z (omega (arith, length-drop (second + 1) line))
-
-      -- ---- the numbers
-
-      x-none : word.Refused ≡ word_of x → words.Refused ≡ words_of (numbers_of line)
-      unfolding numbers_of numbers_in
-      x-none h = rw (all, word_none x (sym h))
-
-      module _ (a : ℕ) (p : word.Number a ≡ word_of x) where
-        y-none : word.Refused ≡ word_of y → words.Refused ≡ words_of (numbers_of line)
-        unfolding numbers_of numbers_in
-        y-none h = rw (all, (word_said x a (sym p)).0, word_none y (sym h))
-
-        module _ (b : ℕ) (q : word.Number b ≡ word_of y) where
-          z-none : word.Refused ≡ word_of last → words.Refused ≡ words_of (numbers_of line)
-          unfolding numbers_of numbers_in
-          z-none h = rw (all, (word_said x a (sym p)).0, (word_said y b (sym q)).0, word_none z (ap word_of (sym z-part) ∙ sym h))
-
-          said : (c : ℕ) → word.Number c ≡ word_of last → words.Three a b c ≡ words_of (numbers_of line)
-          unfolding numbers_of numbers_in
-          said c r =
-              let s = word_said x a (sym p) in
-              let t = word_said y b (sym q) in
-              let u = word_said z c (ap word_of (sym z-part) ∙ sym r) in
-              rw (all, s.0, t.0, u.0, s.1, t.1, u.1)
-
-pub returns-then-end-first : goal.returns-then-end-first
-unfolding numbers_of numbers_in
-returns-then-end-first c = rw (unfound SPACE 0 c.find-first.result c.args.line.now c.find-first.ensures c.if-end-first.true)
-
-pub returns-then-end-second : goal.returns-then-end-second
-returns-then-end-second c =
-    one-only c.args.line.now c.find-first.result c.find-first.ensures c.if-end-first.false c.find-second.result c.find-second.ensures
-    c.if-end-second.true
-
-pub returns-then-find-end : goal.returns-then-find-end
-returns-then-find-end c =
-    more c.args.line.now c.find-first.result c.find-first.ensures c.if-end-first.false c.find-second.result c.find-second.ensures
-    c.if-end-second.false c.find.result c.find.ensures c.if-find-end.true
-
-pub returns-in_default : goal.returns-in_default
-returns-in_default c =
-    x-none c.args.line.now c.find-first.result c.find-first.ensures c.if-end-first.false c.find-second.result c.find-second.ensures
-    c.if-end-second.false c.find.result c.find.ensures c.if-find-end.false c.in_default.ensures
-
-pub returns-in_default-number : goal.returns-in_default-number
-returns-in_default-number c =
-    y-none c.args.line.now c.find-first.result c.find-first.ensures c.if-end-first.false c.find-second.result c.find-second.ensures
-    c.if-end-second.false c.find.result c.find.ensures c.if-find-end.false c.in-Number.a c.in-Number.ensures c.in_default-number.ensures
-
-pub returns-in_default-number-2 : goal.returns-in_default-number-2
-returns-in_default-number-2 c =
-    z-none c.args.line.now c.find-first.result c.find-first.ensures c.if-end-first.false c.find-second.result c.find-second.ensures
-    c.if-end-second.false c.find.result c.find.ensures c.if-find-end.false c.in-Number.a c.in-Number.ensures c.in-Number-number.b
-    c.in-Number-number.ensures c.in_default-number-2.ensures
+pub returns-then-is_some : goal.returns-then-is_some
+returns-then-is_some c =
+    let all = YieldsList-from_slice_split {s = c.split-words.result} _ (λ x. eqb x 32) c.args.line.now c.split-words.ensures.rest
+    c.split-words.ensures.done c.split-words.ensures.closure
+    (λ x r q k. (refl, let e = rw k.shows at k.called.met in search (rules, e) fits 20000)) in
+    let x = next all c.in_ok-next.field-0 c.next.new.self c.in_ok-next.ensures.steps in
+    let y = next x.road c.in_ok-next-2.field-0 c.next-2.new.self c.in_ok-next-2.ensures.steps in
+    let z = next y.road c.in_ok-next-3.field-0 c.next-3.new.self c.in_ok-next-3.ensures.steps in
+    unread c.args.line.now (rw z.is at (rw y.is at x.is)) (fourth_none _ _ _ z.rest
+    (some_left z.road c.next-4.result c.next-4.new.self c.next-4.ensures.steps (sym c.is_some.ensures ∙ c.if-is_some.true)))
 
 pub returns : goal.returns
 returns c =
-    said c.args.line.now c.find-first.result c.find-first.ensures c.if-end-first.false c.find-second.result c.find-second.ensures
-    c.if-end-second.false c.find.result c.find.ensures c.if-find-end.false c.in-Number.a c.in-Number.ensures c.in-Number-number.b
-    c.in-Number-number.ensures c.in-Number-number-2.c c.in-Number-number-2.ensures
+    let all = YieldsList-from_slice_split {s = c.split-words.result} _ (λ x. eqb x 32) c.args.line.now c.split-words.ensures.rest
+    c.split-words.ensures.done c.split-words.ensures.closure
+    (λ x r q k. (refl, let e = rw k.shows at k.called.met in search (rules, e) fits 20000)) in
+    let x = next all c.in_ok-next.field-0 c.next.new.self c.in_ok-next.ensures.steps in
+    let y = next x.road c.in_ok-next-2.field-0 c.next-2.new.self c.in_ok-next-2.ensures.steps in
+    let z = next y.road c.in_ok-next-3.field-0 c.next-3.new.self c.in_ok-next-3.ensures.steps in
+    let last = none_left z.road c.next-4.result c.next-4.new.self c.next-4.ensures.steps (sym c.is_some.ensures ∙ c.if-is_some.false) in
+    read c.args.line.now _ _ _ (rw last at (rw z.is at (rw y.is at x.is))) _ _ _ c.in_ok-a.ensures c.in_ok-b.ensures c.in_ok-c.ensures

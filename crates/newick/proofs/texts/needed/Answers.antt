@@ -2,12 +2,13 @@
 use Rattle.std.proofs.Common.{arith}
 use Rattle.newick.specs.Texts.{needed}
 use Rattle.newick.proofs.TextLaws.{digits-few, digits_more}
+use Rattle.newick.proofs.texts.needed.Goals.{then-k-lt10, else-k-lt10}
 use Rattle.newick.proofs.texts.needed.Goals as goal
-
-pub returns-then-k-lt10 : goal.returns-then-k-lt10
-unfolding needed
-returns-then-k-lt10 c = omega (arith, digits-few c.args.n c.if-k-lt10.true)
 
 pub returns : goal.returns
 unfolding needed
-returns c = omega (arith, digits_more c.args.n c.if-k-lt10.false (omega arith))
+returns c =
+    elim c.if-k-lt10.branch [
+      | then-k-lt10 w ↦ omega (arith, digits-few c.args.n w.if-k-lt10.true)
+      | else-k-lt10 w ↦ omega (arith, digits_more c.args.n w.if-k-lt10.false (omega arith))
+    ]

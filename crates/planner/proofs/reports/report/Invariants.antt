@@ -1,11 +1,6 @@
 -- Each turn of the loop says the line of one model.
-use Rattle.std.proofs.Common.{◌-◌}
-use Rattle.planner.specs.Reports.{MODELS}
 use Rattle.planner.proofs.Reported.{Said}
 use Rattle.planner.proofs.reports.report.Given as goal
 
 abbrev pub invariant-loop-model : goal.invariant-loop-model
-invariant-loop-model l = Said l.text l.model l.bytes l.length
-
-abbrev pub decreases-loop-model : goal.decreases-loop-model
-decreases-loop-model l = MODELS - l.model
+invariant-loop-model l = Said l.text l.model l.out.items

@@ -1,54 +1,40 @@
 -- Each answer is the first of the refusals that there is.
-use Rattle.std.proofs.Common.{◌^◌, ◌<◌, sym, ap, ◌∙◌}
-use borrow.Author.Tests.{lt-leb}
-use Rattle.relations.specs.Sets.{first}
-use Rattle.charges.specs.Charges.{Answer}
-use Rattle.table.specs.Results.{called, unfit, in_order}
-use Rattle.table.proofs.Refusals.{first_found, number_pos, few-figures, only-columns}
+use Rattle.std.proofs.Common.{arith, sym}
+use Rattle.std.proofs.lemmas.Bool.Decides.{nat_tests}
+use Rattle.std.proofs.lemmas.Result.{err_from_is_err_and}
+use Rattle.relations.proofs.Named.{is_relation_lem}
+use Rattle.relations.specs.Sets.{MOST, first}
+use Rattle.table.specs.Results.{bad_figures, unfit, in_order}
+use Rattle.table.proofs.Refusals.{first_zero, first_found, passed_true, number_pos}
 use Rattle.table.proofs.checks.check.Goals as goal
 
-pub returns-in-Failed : goal.returns-in-Failed
+pub returns-in_err-check_figures : goal.returns-in_err-check_figures
 unfolding unfit in_order
-returns-in-Failed c = first_found _ _ _ c.in-Failed.ensures (number_pos c.in-Failed.why)
+returns-in_err-check_figures c =
+    let p = err_from_is_err_and c.from_residual.result c.from_residual.ensures.1 in
+    rw (p.1, p.2) (first_found _ _ _ c.in_err-check_figures.ensures (number_pos _))
 
-pub returns-in-UnknownModel : goal.returns-in-UnknownModel
+pub returns-in_err-charge : goal.returns-in_err-charge
 unfolding unfit in_order first
-returns-in-UnknownModel c =
-    rw (
-      sym c.in_default.ensures,
-      ap (λ (y : Answer). y.number) (sym c.in-UnknownModel.ensures),
-    )
+returns-in_err-charge c =
+    let p = err_from_is_err_and c.from_residual-in_err-charge.result c.from_residual-in_err-charge.ensures.1 in
+    rw (p.1, p.2, sym c.in_ok-check_figures.ensures, sym c.in_err-charge.ensures)
 
 pub returns-then-job-gt-HIGHEST : goal.returns-then-job-gt-HIGHEST
 unfolding unfit in_order first
 returns-then-job-gt-HIGHEST c =
-    let above : 2 ^ 60 < c.args.job.limit = c.if-job-gt-HIGHEST.true in
-    rw (
-      sym c.in_default.ensures,
-      ap (λ (y : Answer). y.number) (sym c.in_default-charge.ensures),
-      lt-leb _ _ above,
-    )
+    let l = c.in_ok-check_figures.ensures in
+    let k = c.in_ok-charge.ensures in
+    grind (arith, nat_tests)
 
 pub is_short-requires : goal.is_short-requires
-is_short-requires c = few-figures _ _ _ (sym c.in_default.ensures)
+unfolding bad_figures in_order
+is_short-requires c = (is_relation_lem MOST c.args.job.n (passed_true 0 _ (first_zero _ _ (sym c.in_ok-check_figures.ensures)).0)).1
 
--- Only the columns are left to be refused for.
 pub returns-then-is_short : goal.returns-then-is_short
-returns-then-is_short c =
-    let a = c.args in
-    let call = called a.job.n a.counts.now a.divisors.now a.job.model a.job.limit a.sizes.now a.costs.now a.lefts.now in
-    let told = ap (λ (y : Answer). y.number) c.in_default-charge.ensures in
-    rw (
-      only-columns a.divisor call c.in_default.ensures told c.if-job-gt-HIGHEST.false,
-      sym c.is_short.ensures ∙ c.if-is_short.true,
-    )
+unfolding unfit in_order first
+returns-then-is_short c = let l = c.in_ok-check_figures.ensures in let k = c.in_ok-charge.ensures in grind (arith, nat_tests)
 
 pub returns : goal.returns
-returns c =
-    let a = c.args in
-    let call = called a.job.n a.counts.now a.divisors.now a.job.model a.job.limit a.sizes.now a.costs.now a.lefts.now in
-    let told = ap (λ (y : Answer). y.number) c.in_default-charge.ensures in
-    rw (
-      only-columns a.divisor call c.in_default.ensures told c.if-job-gt-HIGHEST.false,
-      sym c.is_short.ensures ∙ c.if-is_short.false,
-    )
+unfolding unfit in_order first
+returns c = let l = c.in_ok-check_figures.ensures in let k = c.in_ok-charge.ensures in grind (arith, nat_tests)

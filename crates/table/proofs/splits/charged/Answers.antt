@@ -1,12 +1,14 @@
 -- A model that is charged has the charge of the list, and an unknown one none.
-use Rattle.std.proofs.Common.{ap}
-use Rattle.charges.specs.Charges.{Answer, charge}
+use Rattle.std.proofs.Common.{◌≡◌, ℕ, Result, Ok, Err, ap, ◌∙◌}
+use Rattle.std.specs.Result.{result_unwrap_or}
+use Rattle.charges.specs.Charges.{Answer, answer, priced, charge}
+use Rattle.charges.specs.declared.UnknownModel.{UnknownModel}
 use Rattle.table.proofs.splits.charged.Goals as goal
 
-pub returns-in-At : goal.returns-in-At
+charge-or_none : (r : Result ℕ UnknownModel) (model a b o : ℕ) → answer r ≡ priced model a b o → result_unwrap_or r 0 ≡ charge model a b o
 unfolding charge
-returns-in-At c = ap (λ (x : Answer). x.charge) c.in-At.ensures
+charge-or_none (Ok c) model a b o e = ap (λ (x : Answer). x.charge) e
+charge-or_none (Err why) model a b o e = ap (λ (x : Answer). x.charge) e
 
-pub returns-in-UnknownModel : goal.returns-in-UnknownModel
-unfolding charge
-returns-in-UnknownModel c = ap (λ (x : Answer). x.charge) c.in-UnknownModel.ensures
+pub returns : goal.returns
+returns c = c.unwrap_or.ensures ∙ charge-or_none _ _ _ _ _ c.charge.ensures
