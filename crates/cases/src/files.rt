@@ -6,7 +6,7 @@ ghost use Rattle.cases.specs.Files.{is_answer, after_line1, answers_to, reads_as
 
 use figures::{Fault, Figures};
 
-// A text that is refused says none.
+// A text that is refused says none: its answer has no room for any. Where figures are lent, as in `exports`, they are these.
 const NO_FIGURES: Figures = Figures {
     n: 0,
     counts: [0; 15],

@@ -191,7 +191,7 @@ fn case_10<W: Write>(out: &mut W) -> io::Result<()> {
     let output = planner::reports::report(
         b"%%MatrixMarket matrix coordinate integer symmetric\n4 4 4\n1 1 10\n2 2 20\n3 3 30\n4 4 40\n",
     );
-    out.write_all(output.as_slice())
+    out.write_all(&output.bytes[..output.length])
 }
 
 // Whether print answers with this text, which fills the room. The first four are print's own parameters.

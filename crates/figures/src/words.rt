@@ -17,17 +17,21 @@ pub fn len_before(text: &[u8], b: u8, from: usize) -> Option<usize>
     text.iter().skip(from).position(|c| *c == b)
 }
 
-// The three numbers of a line: three words, one space between them, and each a number, held.
+// The three numbers of a line: three words, one space between them, and each a number, held. The line is cut before its digits are read, so
+// that one of four words is refused at once.
 pub fn three(line: &[u8]) -> Option<(u64, u64, u64)>
     ensures { result ≡ words_of (numbers_of line.now) }
 {
     let mut words = line.split(|c| *c == b' ');
-    let a = number(words.next()?)?;
-    let b = number(words.next()?)?;
-    let c = number(words.next()?)?;
+    let first = words.next()?;
+    let second = words.next()?;
+    let third = words.next()?;
     if words.next().is_some() {
         return None;
     }
+    let a = number(first)?;
+    let b = number(second)?;
+    let c = number(third)?;
     Some((a, b, c))
 }
 

@@ -88,4 +88,4 @@ number_of_determined : Determined NumberOf.Post
 number_of_determined k a x r q p s = p ∙ sym s
 
 report_determined : Determined Report.Post
-report_determined k a x r q p s = let e = p ∙ sym s in λ i. record { items = e i }
+report_determined k a x r q p s = p ∙ sym s

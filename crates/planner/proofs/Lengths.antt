@@ -42,6 +42,11 @@ module _ (text : List ℕ) (model limit : ℕ) (room : List ℕ) (z : (planned t
       ∙ text-length ((job_for model limit).profile (fig (judged text).figures)) n (tree_of (judged text).figures model limit) ok.some
       (subst (λ (S : ℕ). Over ((job_for model limit).profile (fig (judged text).figures)) S (tree_of (judged text).figures model limit)) (all_is n ok.few) over)
 
+  -- which is something,
+  pub length_some : 0 < (planned text model limit room).answer.length
+  unfolding needed
+  length_some = omega (arith, length_is)
+
   -- and 64 bytes at most.
   length_most : (planned text model limit room).answer.length ≤ 64
   length_most =

@@ -3,16 +3,18 @@ use Prim.Native.Nat.{ℕ, suc, ◌+◌, ◌-◌, ◌*◌, ◌^◌, ◌≤◌, �
 use native.Mathlib.Numerals.{add-one}
 use native.Mathlib.Omega.{arith}
 use mathlib.Core.List.{List, [], ◌++◌}
-use mathlib.Core.Path.{◌≡◌, sym, ap, ◌∙◌}
-use lib.ListN.{length, take, length-append, length-take, replicate}
+use mathlib.Core.Path.{◌≡◌, sym, ap, ap₂, ◌∙◌}
+use lib.ListN.{length, take, drop, length-append, length-take, replicate}
 use lib.Dec.{eqb}
 use mathlib.Core.Bool.{false}
 use borrow.Author.Tests.{eq-eqb, ne_eqb, lt-ltb, le-ltb}
 use Rattle.numbers.specs.Texts.{bytes, decimal}
 use Rattle.figures.specs.Judge.{judged}
 use Rattle.planner.specs.Plans.{Result, number_of, place_of, result_of, outcome, planned}
-use Rattle.planner.specs.Reports.{LONGEST, LIMIT, MODELS, ROOM, asked, spaced, line_of, line, refused_line, lines, printed}
+use Rattle.planner.specs.Reports.{LONGEST, LIMIT, MODELS, ROOM, asked, spaced, line_of, line, refused_line, lines, printed, output_of}
 use Rattle.planner.specs.declared.answers.Plan.{Plan}
+use Rattle.planner.specs.declared.reports.Output.{Output}
+use Rattle.std.proofs.lemmas.List.{drop-replicate}
 use Rattle.planner.specs.declared.answers.Refusal.{Refusal}
 use Rattle.std.specs.Prelude.{Ok, Err}
 use Rattle.planner.proofs.Lengths.{plan-short}
@@ -46,6 +48,20 @@ refused_most number place n p =
       digits_32 number n,
       digits_64 place p,
     )
+
+-- What is said, at the start of the room, which holds zeros.
+pub at_start : (s t : List ℕ) (k : ℕ) → t ≡ s → k ≡ length s → record { bytes = t ++ drop k (replicate ROOM 0); length = k } ≡ output_of s
+at_start s t k e l = ap₂ made room l
+  where
+    made : List ℕ → ℕ → Output
+    made b n = record { bytes = b; length = n }
+
+    room : t ++ drop k (replicate ROOM 0) ≡ s ++ replicate (ROOM - length s) 0
+    room = ap₂ (λ (x : List ℕ) (j : ℕ). x ++ drop j (replicate ROOM 0)) e l ∙ ap (λ (z : List ℕ). s ++ z) (drop-replicate (length s) ROOM 0)
+
+-- What is printed is within the room, however long.
+pub output_within : (s : List ℕ) → (output_of s).length ≤ length (output_of s).bytes
+output_within s = omega (arith, length-append s (replicate (ROOM - length s) 0))
 
 -- ---- model by model
 

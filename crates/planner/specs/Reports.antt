@@ -1,9 +1,10 @@
 -- What the program prints for the bytes of its input (document 01, "Numbers answered"): "a line for each model", or "the one line
 -- `refused N at P`".
-use Rattle.std.specs.Prelude.{ℕ, zero, suc, cond, List, [], ◌++◌, ◌≡◌, refl, eqb, ltb, length, take, replicate}
+use Rattle.std.specs.Prelude.{ℕ, zero, suc, ◌-◌, cond, List, [], ◌++◌, ◌≡◌, refl, eqb, ltb, length, take, replicate}
 use Rattle.numbers.specs.Texts.{bytes, digits, decimal}
 use Rattle.figures.specs.Judge.{Result as Judgement, judged}
 use Rattle.planner.specs.Plans.{Result, outcome}
+use Rattle.planner.specs.declared.reports.Output.{Output}
 
 -- "At most 8,192 bytes."
 abbrev pub LONGEST : ℕ
@@ -49,6 +50,10 @@ printed text = cond (ltb LONGEST (length text)) (refused_line 11 LONGEST) (lines
 -- The room for what is printed, which is more than is ever needed.
 abbrev pub ROOM : ℕ
 ROOM = 512
+
+-- The bytes printed, and 0 past them.
+abbrev pub output_of : List ℕ → Output
+output_of said = record { bytes = said ++ replicate (ROOM - length said) 0; length = length said }
 
 -- ---- computed: the first line of document 01's case 10, and a refusal
 

@@ -6,6 +6,8 @@ use host::random::{cases, Random};
 use host::tally::Tally;
 use host::texts;
 use std::io::{ErrorKind, Write};
+use std::os::fd::OwnedFd;
+use std::os::unix::net::UnixDatagram;
 use std::process::{ChildStdin, Command, Stdio};
 use std::time::Duration;
 
@@ -17,6 +19,9 @@ fn main() {
     let mut runs = Tally::default();
     for length in LENGTHS {
         cases("lengths", 8, |random| one_length(random, length, &mut runs));
+    }
+    for length in [LONGEST, LONGEST + 1] {
+        cases("messages", 8, |random| one_message(random, length, &mut runs));
     }
     cases("runs on accepted texts", 200, |random| {
         agree(&texts::accepted(random, 15), AT_ONCE, &mut runs);
@@ -47,6 +52,34 @@ fn one_length(random: &mut Random, length: usize, runs: &mut Tally) {
     agree(&misstated, AT_ONCE, runs);
     let any_bytes: Vec<u8> = (0..length).map(|_| random.bits() as u8).collect();
     agree(&any_bytes, AT_ONCE, runs);
+}
+
+/// A text of one length that is accepted up to the last byte, as one message of a datagram socket: what is not asked for when it is read is
+/// lost.
+fn one_message(random: &mut Random, length: usize, runs: &mut Tally) {
+    let mut text = texts::accepted_of_length(random, 11, LONGEST);
+    text.resize(length, b'1');
+    let expected = report(&text);
+    assert_eq!(run_on(message(&text)), expected.text.as_bytes());
+    runs.count(expected.number);
+}
+
+/// An empty message ends the input.
+fn message(text: &[u8]) -> Stdio {
+    let (ours, theirs) = UnixDatagram::pair().expect("a pair of sockets");
+    for part in [text, &[]] {
+        ours.send(part).expect("a message is sent whole");
+    }
+    Stdio::from(OwnedFd::from(theirs))
+}
+
+fn run_on(input: Stdio) -> Vec<u8> {
+    let output = Command::new(PROGRAM)
+        .stdin(input)
+        .output()
+        .expect("crates/plan/out/plan is built by rt run");
+    assert!(output.status.success(), "{}", output.status);
+    output.stdout
 }
 
 /// How many bytes are written at a time. A pipe hands over what has come so far.

@@ -10,7 +10,7 @@ pub loop-start-preserved : goal.loop-start-preserved
 loop-start-preserved c =
     let e : c.loop-start.start + (c.in-Some.len + 1) ≡ c.loop-start.start + c.in-Some.len + 1 = omega arith in
     rw e
-    (sym (comment_passed c.args.text.now c.loop-start.start c.in-Some.len c.in-Some.ensures.first c.in-Some.ensures.within c.if-text-start-eq37.true)
+    (sym (comment_passed c.args.text.now c.loop-start.start c.in-Some.len c.in-Some.ensures.first c.in-Some.ensures.within (omega arith))
     ∙ c.loop-start.invariant)
 
 pub returns-after-loop-start : goal.returns-after-loop-start

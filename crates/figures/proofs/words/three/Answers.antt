@@ -1,4 +1,4 @@
-use Rattle.std.proofs.Common.{◌≡◌, ℕ, ◌<◌, true, false, List, [], ◌∷◌, length, eqb, ◌&&◌, rules, refl, sym, ap, ◌∙◌, arith}
+use Rattle.std.proofs.Common.{◌≡◌, ℕ, ◌<◌, Bool, true, false, List, [], ◌∷◌, length, eqb, ◌&&◌, MatchBool, rules, refl, sym, ap, arith}
 use mathlib.Core.Bool.{and-false}
 use Rattle.std.specs.Prelude.{Option, Some, None, is_some}
 use Rattle.std.specs.List.{slice_split}
@@ -8,6 +8,7 @@ use Rattle.figures.specs.Lines.{SPACE, is_number, none, numbers_in, numbers_of}
 use Rattle.figures.specs.Inner.{word_of, words_of}
 use Rattle.figures.proofs.Cutting.{split_is}
 use Rattle.figures.proofs.Digits.{word_said, word_none}
+use Rattle.figures.proofs.words.three.Goals.{After-is_some}
 use Rattle.figures.proofs.words.three.Goals as goal
 
 -- ---- one call of `next`
@@ -29,13 +30,9 @@ module _ {S A B : Type 0} {steps : S → Option A → S → Type 0} {v : A → B
   ended {ys = y ∷ ys} h t k = absurd (h.runs.0 t k)
 
   -- By whether it took one.
-  some_left : {ys : List B} → YieldsList steps v s ys → (r : Option A) (t : S) → steps s r t → is_some r ≡ true → 0 < length ys
-  some_left h None t k e = absurd (cc)
-  some_left h (Some x) t k e = rw (next h x t k).is (omega arith)
-
-  none_left : {ys : List B} → YieldsList steps v s ys → (r : Option A) (t : S) → steps s r t → is_some r ≡ false → ys ≡ []
-  none_left h None t k e = ended h t k
-  none_left h (Some x) t k e = absurd (cc)
+  any_left : {ys : List B} → YieldsList steps v s ys → (r : Option A) (t : S) → steps s r t → MatchBool (is_some r) (0 < length ys) (ys ≡ [])
+  any_left h None t k = ended h t k
+  any_left h (Some x) t k = rw (next h x t k).is (omega arith)
 
 -- ---- the words
 
@@ -47,111 +44,100 @@ two_none : (x y : List ℕ) → numbers_in (x ∷ y ∷ []) ≡ none
 unfolding numbers_in
 two_none x y = refl
 
--- One that is no number is enough,
-first_none : (x : List ℕ) (ws : List (List ℕ)) → is_number x ≡ false → numbers_in (x ∷ ws) ≡ none
-unfolding numbers_in
-first_none x [] e = refl
-first_none x (y ∷ []) e = refl
-first_none x (y ∷ z ∷ []) e = rw e
-first_none x (y ∷ z ∷ w ∷ ws) e = refl
+module _ (x y z : List ℕ) where
+  -- A fourth is one too many,
+  fourth_none : (ws : List (List ℕ)) → 0 < length ws → numbers_in (x ∷ y ∷ z ∷ ws) ≡ none
+  unfolding numbers_in
+  fourth_none [] l = absurd (omega arith)
+  fourth_none (w ∷ ws) l = refl
 
-second_none : (x y : List ℕ) (ws : List (List ℕ)) → is_number y ≡ false → numbers_in (x ∷ y ∷ ws) ≡ none
-unfolding numbers_in
-second_none x y [] e = refl
-second_none x y (z ∷ []) e = rw (e, and-false (is_number x))
-second_none x y (z ∷ w ∷ ws) e = refl
+  -- and of three, one that is no number is enough.
+  first_none : is_number x ≡ false → numbers_in (x ∷ y ∷ z ∷ []) ≡ none
+  unfolding numbers_in
+  first_none e = rw e
 
-third_none : (x y z : List ℕ) (ws : List (List ℕ)) → is_number z ≡ false → numbers_in (x ∷ y ∷ z ∷ ws) ≡ none
-unfolding numbers_in
-third_none x y z [] e = rw (e, and-false (is_number x && is_number y))
-third_none x y z (w ∷ ws) e = refl
+  second_none : is_number y ≡ false → numbers_in (x ∷ y ∷ z ∷ []) ≡ none
+  unfolding numbers_in
+  second_none e = rw (e, and-false (is_number x))
 
--- and a fourth is one too many.
-fourth_none : (x y z : List ℕ) (ws : List (List ℕ)) → 0 < length ws → numbers_in (x ∷ y ∷ z ∷ ws) ≡ none
-unfolding numbers_in
-fourth_none x y z [] l = absurd (omega arith)
-fourth_none x y z (w ∷ ws) l = refl
+  third_none : is_number z ≡ false → numbers_in (x ∷ y ∷ z ∷ []) ≡ none
+  unfolding numbers_in
+  third_none e = rw (e, and-false (is_number x && is_number y))
 
-module _ (line : List ℕ) {ws : List (List ℕ)} (cut : slice_split (λ c. eqb c 32) line ≡ ws) where
+-- A line that is cut into words.
+module _ (line : List ℕ) {ws : List (List ℕ)} (cut : slice_split (λ c. eqb c SPACE) line ≡ ws) where
   unread : numbers_in ws ≡ none → None ≡ words_of (numbers_of line)
   unfolding numbers_of
   unread e = rw (split_is SPACE line, cut, e)
 
-module _ (line x y z : List ℕ) (cut : slice_split (λ c. eqb c 32) line ≡ x ∷ y ∷ z ∷ []) where
-  read : (a b c : ℕ) → Some a ≡ word_of x → Some b ≡ word_of y → Some c ≡ word_of z → Some (a, b, c) ≡ words_of (numbers_of line)
+module _ (line x y z : List ℕ) where
+  read : slice_split (λ c. eqb c SPACE) line ≡ x ∷ y ∷ z ∷ [] → (a b c : ℕ) → Some a ≡ word_of x → Some b ≡ word_of y → Some c ≡ word_of z
+      → Some (a, b, c) ≡ words_of (numbers_of line)
   unfolding numbers_of numbers_in
-  read a b c d e f =
+  read cut a b c d e f =
       let p = word_said x a (sym d) in
       let q = word_said y b (sym e) in
       let r = word_said z c (sym f) in
       rw (split_is SPACE line, cut, p.0, q.0, r.0, p.1, q.1, r.1)
 
+  -- By whether a fourth word follows: refused, or of three words.
+  abbrev Cut : Bool → Type 0
+  Cut t = MatchBool t (None ≡ words_of (numbers_of line)) (slice_split (λ c. eqb c SPACE) line ≡ x ∷ y ∷ z ∷ [])
+
+  cut_by : (t : Bool) (ws : List (List ℕ)) → slice_split (λ c. eqb c SPACE) line ≡ x ∷ y ∷ z ∷ ws → MatchBool t (0 < length ws) (ws ≡ []) → Cut t
+  cut_by true ws e l = unread line e (fourth_none x y z ws l)
+  cut_by false ws e n = rw n at e
+
+-- ---- the code
+
+-- Before it reads a digit, the line is cut.
+cut : (c : After-is_some) → Cut c.args.line.now c.in_ok-first.first.now c.in_ok-second.second.now c.in_ok-third.third.now c.is_some.result
+cut c =
+    let all = YieldsList-from_slice_split {s = c.split-words.result} _ (λ x. eqb x SPACE) c.args.line.now c.split-words.ensures.rest
+    c.split-words.ensures.done c.split-words.ensures.closure
+    (λ x r q k. (refl, let e = rw k.shows at k.called.met in search (rules, e) fits 20000)) in
+    let x = next all c.in_ok-first.first c.next.new.self c.in_ok-first.ensures.steps in
+    let y = next x.road c.in_ok-second.second c.next-2.new.self c.in_ok-second.ensures.steps in
+    let z = next y.road c.in_ok-third.third c.next-3.new.self c.in_ok-third.ensures.steps in
+    rw c.is_some.ensures
+    (cut_by _ _ _ _ _ z.rest (rw z.is at (rw y.is at x.is)) (any_left {ys = z.rest} z.road c.next-4.result c.next-4.new.self c.next-4.ensures.steps))
+
+pub returns-in_err-second : goal.returns-in_err-second
+returns-in_err-second c =
+    let all = YieldsList-from_slice_split {s = c.split-words.result} _ (λ x. eqb x SPACE) c.args.line.now c.split-words.ensures.rest
+    c.split-words.ensures.done c.split-words.ensures.closure
+    (λ x r q k. (refl, let e = rw k.shows at k.called.met in search (rules, e) fits 20000)) in
+    let x = next all c.in_ok-first.first c.next.new.self c.in_ok-first.ensures.steps in
+    let last = ended x.road c.next-2.new.self c.in_err-second.ensures.steps in
+    rw c.from_residual-in_err-second.ensures (unread c.args.line.now (rw last at x.is) (one_none _))
+
+pub returns-in_err-third : goal.returns-in_err-third
+returns-in_err-third c =
+    let all = YieldsList-from_slice_split {s = c.split-words.result} _ (λ x. eqb x SPACE) c.args.line.now c.split-words.ensures.rest
+    c.split-words.ensures.done c.split-words.ensures.closure
+    (λ x r q k. (refl, let e = rw k.shows at k.called.met in search (rules, e) fits 20000)) in
+    let x = next all c.in_ok-first.first c.next.new.self c.in_ok-first.ensures.steps in
+    let y = next x.road c.in_ok-second.second c.next-2.new.self c.in_ok-second.ensures.steps in
+    let last = ended y.road c.next-3.new.self c.in_err-third.ensures.steps in
+    rw c.from_residual-in_err-third.ensures (unread c.args.line.now (rw last at (rw y.is at x.is)) (two_none _ _))
+
+pub returns-then-is_some : goal.returns-then-is_some
+returns-then-is_some c = rw c.if-is_some.true at (cut (goal.at.returns-then-is_some c).After-is_some)
+
 pub returns-in_err-a : goal.returns-in_err-a
 returns-in_err-a c =
-    let all = YieldsList-from_slice_split {s = c.split-words.result} _ (λ x. eqb x 32) c.args.line.now c.split-words.ensures.rest
-    c.split-words.ensures.done c.split-words.ensures.closure
-    (λ x r q k. (refl, let e = rw k.shows at k.called.met in search (rules, e) fits 20000)) in
-    let x = next all c.in_ok-next.field-0 c.next.new.self c.in_ok-next.ensures.steps in
-    rw c.from_residual-in_err-a.ensures (unread c.args.line.now x.is (first_none _ x.rest (word_none _ (sym c.in_err-a.ensures))))
-
-pub returns-in_err-next-2 : goal.returns-in_err-next-2
-returns-in_err-next-2 c =
-    let all = YieldsList-from_slice_split {s = c.split-words.result} _ (λ x. eqb x 32) c.args.line.now c.split-words.ensures.rest
-    c.split-words.ensures.done c.split-words.ensures.closure
-    (λ x r q k. (refl, let e = rw k.shows at k.called.met in search (rules, e) fits 20000)) in
-    let x = next all c.in_ok-next.field-0 c.next.new.self c.in_ok-next.ensures.steps in
-    let last = ended x.road c.next-2.new.self c.in_err-next-2.ensures.steps in
-    rw c.from_residual-in_err-next-2.ensures (unread c.args.line.now (rw last at x.is) (one_none _))
+    let three = rw c.if-is_some.false at (cut (goal.at.returns-in_err-a c).After-is_some) in
+    rw c.from_residual-in_err-a.ensures (unread c.args.line.now three (first_none _ _ _ (word_none _ (sym c.in_err-a.ensures))))
 
 pub returns-in_err-b : goal.returns-in_err-b
 returns-in_err-b c =
-    let all = YieldsList-from_slice_split {s = c.split-words.result} _ (λ x. eqb x 32) c.args.line.now c.split-words.ensures.rest
-    c.split-words.ensures.done c.split-words.ensures.closure
-    (λ x r q k. (refl, let e = rw k.shows at k.called.met in search (rules, e) fits 20000)) in
-    let x = next all c.in_ok-next.field-0 c.next.new.self c.in_ok-next.ensures.steps in
-    let y = next x.road c.in_ok-next-2.field-0 c.next-2.new.self c.in_ok-next-2.ensures.steps in
-    rw c.from_residual-in_err-b.ensures
-    (unread c.args.line.now (rw y.is at x.is) (second_none _ _ y.rest (word_none _ (sym c.in_err-b.ensures))))
-
-pub returns-in_err-next-3 : goal.returns-in_err-next-3
-returns-in_err-next-3 c =
-    let all = YieldsList-from_slice_split {s = c.split-words.result} _ (λ x. eqb x 32) c.args.line.now c.split-words.ensures.rest
-    c.split-words.ensures.done c.split-words.ensures.closure
-    (λ x r q k. (refl, let e = rw k.shows at k.called.met in search (rules, e) fits 20000)) in
-    let x = next all c.in_ok-next.field-0 c.next.new.self c.in_ok-next.ensures.steps in
-    let y = next x.road c.in_ok-next-2.field-0 c.next-2.new.self c.in_ok-next-2.ensures.steps in
-    let last = ended y.road c.next-3.new.self c.in_err-next-3.ensures.steps in
-    rw c.from_residual-in_err-next-3.ensures (unread c.args.line.now (rw last at (rw y.is at x.is)) (two_none _ _))
+    let three = rw c.if-is_some.false at (cut (goal.at.returns-in_err-b c).After-is_some) in
+    rw c.from_residual-in_err-b.ensures (unread c.args.line.now three (second_none _ _ _ (word_none _ (sym c.in_err-b.ensures))))
 
 pub returns-in_err-c : goal.returns-in_err-c
 returns-in_err-c c =
-    let all = YieldsList-from_slice_split {s = c.split-words.result} _ (λ x. eqb x 32) c.args.line.now c.split-words.ensures.rest
-    c.split-words.ensures.done c.split-words.ensures.closure
-    (λ x r q k. (refl, let e = rw k.shows at k.called.met in search (rules, e) fits 20000)) in
-    let x = next all c.in_ok-next.field-0 c.next.new.self c.in_ok-next.ensures.steps in
-    let y = next x.road c.in_ok-next-2.field-0 c.next-2.new.self c.in_ok-next-2.ensures.steps in
-    let z = next y.road c.in_ok-next-3.field-0 c.next-3.new.self c.in_ok-next-3.ensures.steps in
-    rw c.from_residual-in_err-c.ensures
-    (unread c.args.line.now (rw z.is at (rw y.is at x.is)) (third_none _ _ _ z.rest (word_none _ (sym c.in_err-c.ensures))))
-
-pub returns-then-is_some : goal.returns-then-is_some
-returns-then-is_some c =
-    let all = YieldsList-from_slice_split {s = c.split-words.result} _ (λ x. eqb x 32) c.args.line.now c.split-words.ensures.rest
-    c.split-words.ensures.done c.split-words.ensures.closure
-    (λ x r q k. (refl, let e = rw k.shows at k.called.met in search (rules, e) fits 20000)) in
-    let x = next all c.in_ok-next.field-0 c.next.new.self c.in_ok-next.ensures.steps in
-    let y = next x.road c.in_ok-next-2.field-0 c.next-2.new.self c.in_ok-next-2.ensures.steps in
-    let z = next y.road c.in_ok-next-3.field-0 c.next-3.new.self c.in_ok-next-3.ensures.steps in
-    unread c.args.line.now (rw z.is at (rw y.is at x.is)) (fourth_none _ _ _ z.rest
-    (some_left z.road c.next-4.result c.next-4.new.self c.next-4.ensures.steps (sym c.is_some.ensures ∙ c.if-is_some.true)))
+    let three = rw c.if-is_some.false at (cut (goal.at.returns-in_err-c c).After-is_some) in
+    rw c.from_residual-in_err-c.ensures (unread c.args.line.now three (third_none _ _ _ (word_none _ (sym c.in_err-c.ensures))))
 
 pub returns : goal.returns
-returns c =
-    let all = YieldsList-from_slice_split {s = c.split-words.result} _ (λ x. eqb x 32) c.args.line.now c.split-words.ensures.rest
-    c.split-words.ensures.done c.split-words.ensures.closure
-    (λ x r q k. (refl, let e = rw k.shows at k.called.met in search (rules, e) fits 20000)) in
-    let x = next all c.in_ok-next.field-0 c.next.new.self c.in_ok-next.ensures.steps in
-    let y = next x.road c.in_ok-next-2.field-0 c.next-2.new.self c.in_ok-next-2.ensures.steps in
-    let z = next y.road c.in_ok-next-3.field-0 c.next-3.new.self c.in_ok-next-3.ensures.steps in
-    let last = none_left z.road c.next-4.result c.next-4.new.self c.next-4.ensures.steps (sym c.is_some.ensures ∙ c.if-is_some.false) in
-    read c.args.line.now _ _ _ (rw last at (rw z.is at (rw y.is at x.is))) _ _ _ c.in_ok-a.ensures c.in_ok-b.ensures c.in_ok-c.ensures
+returns c = read _ _ _ _ (rw c.if-is_some.false at (cut (goal.at.returns c).After-is_some)) _ _ _ c.in_ok-a.ensures c.in_ok-b.ensures c.in_ok-c.ensures
