@@ -1,4 +1,4 @@
-use Rattle.std.proofs.Common.{ℕ, [], not, eqb, sym, eq-eqb, ne_eqb}
+use Rattle.std.proofs.Common.{◌≡◌, ℕ, true, false, [], not, eqb, sym, eq-eqb, ne_eqb}
 use Rattle.relations.specs.Sets.{MOST, is_relation}
 use Rattle.figures.specs.Judge.{faulty, entry_lines, size_line}
 use Rattle.figures.specs.Inner.{Going}
@@ -20,11 +20,11 @@ returns-then-n-b-clause-reads c =
 pub returns-then-not-is_relation-clause-reads : goal.returns-then-not-is_relation-clause-reads
 unfolding size_line
 returns-then-not-is_relation-clause-reads c =
-    rw c.at-then-not-is_relation.ensures
-    (rw (eq-eqb c.in-Ok.n c.in-Ok.b c.if-n-b.false, sym c.if-not-is_relation.ensures) at (c.in-Ok.ensures.reads (sized c.args.at)))
+    let many : is_relation MOST c.in-Ok.n ≡ false = sym c.if-not-is_relation.ensures in
+    rw c.at-then-not-is_relation.ensures (rw (eq-eqb c.in-Ok.n c.in-Ok.b c.if-n-b.false, many) at (c.in-Ok.ensures.reads (sized c.args.at)))
 
 pub returns-clause-reads : goal.returns-clause-reads
 unfolding size_line
 returns-clause-reads c =
-    rw c.in-Ok.is
-    (rw (eq-eqb c.in-Ok.n c.in-Ok.b c.if-n-b.false, sym c.if-not-is_relation.ensures) at (c.in-Ok.ensures.reads (sized c.args.at)))
+    let few : is_relation MOST c.in-Ok.n ≡ true = sym c.if-not-is_relation.ensures in
+    rw c.in-Ok.is (rw (eq-eqb c.in-Ok.n c.in-Ok.b c.if-n-b.false, few) at (c.in-Ok.ensures.reads (sized c.args.at)))
